@@ -1,4 +1,5 @@
-ghost use Rattle.std.specs.Prelude.{◌≡◌, [], ◌++◌, length, take, IfOk, OnOk, OnErr};
+ghost use Rattle.std.specs.Prelude.{◌≡◌, [], ◌++◌, take, IfOk, OnOk, OnErr};
+ghost use Rattle.umem_base.specs.Numbers.{right_aligned};
 
 use crate::no_memory::NoMemory;
 use std::alloc::Global;
@@ -36,6 +37,10 @@ impl Text {
         })
     }
 
+    pub fn allocator(&self) -> Global {
+        *self.bytes.allocator()
+    }
+
     pub fn as_slice(&self) -> &[u8]
         ensures { result.now ≡ self.now }
     {
@@ -48,6 +53,25 @@ impl Text {
         ensures err { OnErr result (self.new ≡ self.old) }
     {
         self.bytes.extend_from_slice(bytes)?;
+        Ok(())
+    }
+
+    /// Appends the bytes, with as many spaces before them as make `width` bytes. On refusal the text is as
+    /// before.
+    pub fn push_aligned(&mut self, bytes: &[u8], width: usize) -> Result<(), NoMemory>
+        ensures ok { OnOk result (self.new ≡ self.old ++ right_aligned width bytes.now) }
+        ensures err { OnErr result (self.new ≡ self.old) }
+    {
+        let blanks = width.saturating_sub(bytes.len());
+        self.bytes.reserve(blanks)?;
+        let start = self.bytes.len();
+        for _ in 0..blanks {
+            self.bytes.push(b' ').unwrap();
+        }
+        if self.bytes.extend_from_slice(bytes).is_err() {
+            self.bytes.truncate(start);
+            return Err(NoMemory);
+        }
         Ok(())
     }
 
