@@ -1,2 +1,5 @@
 mod Digits
+mod FileLists
 mod Known
+mod Moves
+mod OpenedFiles

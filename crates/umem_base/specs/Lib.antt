@@ -1,6 +1,9 @@
 pub mod Bounded
+pub mod Disk
 pub mod Faults
+pub mod Files
 pub mod Folder
+pub mod Memory
 pub mod Numbers
 pub mod Pages
 pub mod Transfer

@@ -1,0 +1,21 @@
+use Rattle.std.proofs.Common.{◌≡◌, ℕ, ◌+◌, ◌++◌, drop, Ok, ap, subst}
+use Rattle.umem_base.specs.declared.outside.failed.Failed.{Failed}
+use Rattle.umem_base.specs.Folder.{Activity, ReadsOn}
+use Rattle.umem_base.specs.Files.{activity_of}
+use Rattle.umem_base.specs.declared.memory.open.Open.TheVariants as open_file
+use Rattle.umem_base.specs.Memory.{FolderState}
+use Rattle.umem_base.proofs.Moves.{slice_rest}
+use Rattle.umem_base.proofs.OpenedFiles.{moved}
+use Rattle.umem_base.proofs.memory.folder.MemFolderFolder.read.Goals as goal
+
+pub returns-clause-moved : goal.returns-clause-moved
+returns-clause-moved c =
+    let bytes = c.bytes_at.result.now in
+    let at = c.in-Read.at in
+    let count = c.min-count.result in
+    let is = rw (slice_rest bytes at) at c.min-count.ensures in
+    let filled = rw (slice_rest bytes at) at c.copy_from_slice.ensures.after in
+    let front = c.copy_from_slice.new.self in
+    let made = moved c.self.inside.files c.self.inside.opened c.in-Read.file at count bytes c.args.buffer.now front c.in-Read.is c.self.invariant c.bytes_at.ensures is filled in
+    let activity = ap (λ (s : FolderState). s.activity) c.self.view_is in
+    subst (λ (a : Activity). ReadsOn {E = Failed} a (activity_of c.self.inside.files (open_file.Read c.in-Read.file (at + count))) (Ok count) (front ++ drop count c.args.buffer.now)) activity made
