@@ -1,5 +1,5 @@
 -- One read from memory.
-use Rattle.std.proofs.Common.{◌≡◌, ℕ, ◌+◌, ◌-◌, ◌<◌, ◌≤◌, min, List, [], ◌∷◌, ◌++◌, length, take, drop, length-take, length-drop, length-append, refl, sym, ap, ◌∙◌, arith}
+use Rattle.std.proofs.Common.{◌≡◌, ℕ, ◌+◌, ◌-◌, ◌<◌, min, List, [], ◌++◌, length, take, drop, length-take, length-drop, length-append, sym, ap, arith}
 use Rattle.std.proofs.lemmas.List.{take_at, take-append-drop, nil_from_length, drop-drop, take_all}
 
 -- a slice from a place to the end

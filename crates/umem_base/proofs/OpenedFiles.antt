@@ -3,14 +3,13 @@ use Rattle.std.proofs.Common.{◌≡◌, ℕ, ◌+◌, ◌-◌, ◌<◌, ◌≤�
 use Rattle.std.specs.Prelude.{not, ◌||◌, nat_lt, IfSome, is_some}
 use Rattle.std.specs.List.{slice_get}
 use Rattle.std.specs.Option.{option_map}
-use Rattle.std.specs.Io.KnownBytes.{Consumes, IsAtEnd}
 use Rattle.std.proofs.lemmas.Option.{slice_get_cases}
 use Rattle.umem_base.specs.declared.memory.open.Open.{Open}
 use Rattle.umem_base.specs.declared.memory.open.Open.TheVariants as open_file
 use Rattle.umem_base.specs.Files.{activity_of, IsOpenFile}
-use Rattle.umem_base.specs.Folder.{Activity, Writing, Reading, IsReading, Grows, ReadsOn, Sets, left_of}
+use Rattle.umem_base.specs.Folder.{Writing, Grows, ReadsOn, Sets}
 use Rattle.umem_base.specs.declared.outside.failed.Failed.{Failed}
-use Rattle.umem_base.specs.Memory.{MemoryFile, IsFirstAt, ChangesAt, HasRoomAt, contents, file_named, with_bytes, room_left}
+use Rattle.umem_base.specs.Memory.{MemoryFile, IsFirstAt, ChangesAt, HasRoomAt, contents, file_named, room_left}
 use Rattle.umem_base.proofs.Moves.{moves, moves_none}
 use Rattle.umem_base.proofs.FileLists.{named_first, first_named, first_kept, opens_first, writes_first, changed_first, contents_with_same, contents_with_other}
 

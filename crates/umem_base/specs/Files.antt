@@ -1,5 +1,5 @@
 -- Files of a folder in memory, as their lists of bytes.
-use Rattle.std.specs.Prelude.{◌≡◌, ◌<◌, ◌≤◌, ℕ, List, map, length, drop, Option, Some, None, MatchOption, ⊤}
+use Rattle.std.specs.Prelude.{◌≤◌, ℕ, List, map, length, drop, Option, Some, None, MatchOption, ⊤}
 use Rattle.std.specs.List.{slice_get}
 use Rattle.umem_base.specs.Folder.{Activity, Idle, Reading, Writing}
 use Rattle.umem_base.specs.Memory.{MemoryFile, IsFirstAt}

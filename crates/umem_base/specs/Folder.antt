@@ -1,6 +1,6 @@
 -- What a folder holds and does. A folder that tells nothing of content has `None` for its files, and for
 -- what is left of the file that it reads and for the name of the one that it writes.
-use Rattle.std.specs.Prelude.{◌≡◌, ◌≢◌, ℕ, List, [], ◌++◌, Option, Some, None, Result, MatchResult, IsSome, ⊤, Bool, true, false}
+use Rattle.std.specs.Prelude.{◌≡◌, ◌≢◌, ℕ, List, ◌++◌, Option, Some, None, Result, MatchResult, IsSome, ⊤, Bool, true, false}
 use Rattle.std.specs.Option.{option_map}
 use Rattle.std.specs.Io.KnownBytes.{ReadConsumes}
 

@@ -1,4 +1,5 @@
 pub mod Bounded
+pub mod Cut
 pub mod Disk
 pub mod Faults
 pub mod Files

@@ -37,6 +37,14 @@ impl<T> BoundedVec<T> {
         Ok(BoundedVec { items, spare })
     }
 
+    /// The items of the vector, with no spare. It takes no memory.
+    pub fn from_vec(items: Vec<T>) -> BoundedVec<T>
+        ensures items { result.items ≡ items.items }
+        ensures spare { result.spare ≡ 0 }
+    {
+        BoundedVec { items, spare: 0 }
+    }
+
     pub fn push(&mut self, item: T)
         requires { 0 < self.old.spare }
         ensures items { self.new.items ≡ self.old.items ++ item ∷ [] }

@@ -1,6 +1,4 @@
-use Rattle.std.proofs.Common.{◌++◌, take}
 use Rattle.std.proofs.lemmas.Result.{err_from_is_err_and}
-use Rattle.umem_base.specs.Folder.{left_of}
 use Rattle.umem_base.proofs.Known.{consumes_more}
 use Rattle.umem_base.proofs.transfer.read_open.Goals as goal
 

@@ -1,5 +1,4 @@
 use Rattle.std.proofs.Common.{sym, ◌∙◌, add-one}
-use Rattle.umem_base.specs.Files.{files_of}
 use Rattle.umem_base.proofs.FileLists.{first_at, none_more, placed}
 use Rattle.umem_base.proofs.memory.table.place_of.Goals as goal
 

@@ -1,4 +1,4 @@
-use Rattle.std.proofs.Common.{◌≡◌, List, Option, Some, ap, subst}
+use Rattle.std.proofs.Common.{◌≡◌, List, Some, ap, subst}
 use Rattle.umem_base.specs.Memory.{MemoryFile, FolderState, contents}
 use Rattle.umem_base.proofs.FileLists.{first_within}
 use Rattle.umem_base.proofs.OpenedFiles.{bytes_first}

@@ -1,4 +1,4 @@
-use Rattle.std.proofs.Common.{◌≡◌, ℕ, ◌+◌, ◌++◌, drop, Ok, ap, subst}
+use Rattle.std.proofs.Common.{◌+◌, ◌++◌, drop, Ok, ap, subst}
 use Rattle.umem_base.specs.declared.outside.failed.Failed.{Failed}
 use Rattle.umem_base.specs.Folder.{Activity, ReadsOn}
 use Rattle.umem_base.specs.Files.{activity_of}

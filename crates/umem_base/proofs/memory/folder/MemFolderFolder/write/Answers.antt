@@ -1,9 +1,8 @@
-use Rattle.std.proofs.Common.{◌≡◌, ◌++◌, length, take, true, false, List, Some, refl, ap, sym, subst, ◌∙◌, arith}
+use Rattle.std.proofs.Common.{◌≡◌, length, true, false, List, Some, refl, ap, sym, subst, ◌∙◌, arith}
 use Rattle.std.specs.Prelude.{not}
 use Rattle.std.proofs.lemmas.List.{take_all}
 use Rattle.umem_base.specs.Folder.{Activity, Grows}
-use Rattle.umem_base.specs.Files.{activity_of}
-use Rattle.umem_base.specs.Memory.{MemoryFile, FolderState, ChangesAt, contents, append_fails}
+use Rattle.umem_base.specs.Memory.{MemoryFile, FolderState, contents, append_fails}
 use Rattle.umem_base.proofs.OpenedFiles.{Appended, appended, fails_unless_fits}
 use Rattle.umem_base.proofs.memory.folder.MemFolderFolder.write.Goals as goal
 use Rattle.umem_base.proofs.memory.folder.MemFolderFolder.write.Goals.{Else-not-append_at, then-fails-via-then-fails, then-fails-via-else-fails+then-not-append_at}
@@ -34,10 +33,11 @@ returns-clause-fails c =
 pub returns-then-fails-clause-fails : goal.returns-then-fails-clause-fails
 returns-then-fails-clause-fails c =
     elim c.then-fails.branch [
-      then-fails-via-then-fails w ↦
-        let planned = sym w.if-fails.ensures.fails in
-        subst (λ (s : FolderState). true ≡ append_fails s c.args.bytes.now) c.self.view_is (rw planned refl)
-    | then-fails-via-else-fails+then-not-append_at w ↦
-        let calm = sym w.if-fails.ensures.fails in
-        let fails = fails_unless_fits _ w.append_at.result c.self.inside.files c.self.inside.opened c.in-Written.file (length c.args.bytes.now) c.in-Written.is c.self.invariant w.append_at.ensures.fits calm in
-        subst (λ (s : FolderState). true ≡ append_fails s c.args.bytes.now) c.self.view_is (sym (fails ∙ ap not w.if-not-append_at.true)) ]
+      | then-fails-via-then-fails w ↦
+          let planned = sym w.if-fails.ensures.fails in
+          subst (λ (s : FolderState). true ≡ append_fails s c.args.bytes.now) c.self.view_is (rw planned refl)
+      | then-fails-via-else-fails+then-not-append_at w ↦
+          let calm = sym w.if-fails.ensures.fails in
+          let fails = fails_unless_fits _ w.append_at.result c.self.inside.files c.self.inside.opened c.in-Written.file (length c.args.bytes.now) c.in-Written.is c.self.invariant w.append_at.ensures.fits calm in
+          subst (λ (s : FolderState). true ≡ append_fails s c.args.bytes.now) c.self.view_is (sym (fails ∙ ap not w.if-not-append_at.true))
+    ]

@@ -1,4 +1,4 @@
-use Rattle.std.proofs.Common.{ℕ, List, ◌++◌, ◌∙◌}
+use Rattle.std.proofs.Common.{◌++◌, ◌∙◌}
 use Rattle.std.proofs.lemmas.List.{map-set}
 use Rattle.umem_base.specs.Files.{file_of}
 use Rattle.umem_base.proofs.FileLists.{changed_at}
