@@ -1,5 +1,5 @@
 -- Bytes that are cut at the first separator.
-use Rattle.std.proofs.Common.{◌≡◌, ℕ, zero, suc, ◌<◌, false, eqb, List, [], ◌∷◌, length, get_or, take, drop, refl, ap, arith}
+use Rattle.std.proofs.Common.{◌≡◌, ℕ, zero, suc, ◌<◌, false, eqb, List, [], ◌∷◌, ◌++◌, length, get_or, take, drop, refl, ap, arith}
 use Rattle.std.proofs.lemmas.Bool.{ne_eqb, eq-eqb}
 use Rattle.umem_base.specs.Cut.{onto_first, cut}
 
@@ -18,3 +18,8 @@ cut_at separator (b ∷ bytes) zero lt here h = rw (eq-eqb b separator here) ref
 cut_at separator (b ∷ bytes) (suc place) lt here h =
     let other : eqb b separator ≡ false = ne_eqb b separator (h 0 (omega arith)) in
     rw other (ap (onto_first b) (cut_at separator bytes place (omega arith) here (λ k lt e. h (suc k) (omega arith) e)))
+
+pub joined_at : (separator : ℕ) (bytes : List ℕ) (place : ℕ) → place < length bytes → get_or bytes place 0 ≡ separator → bytes ≡ take place bytes ++ separator ∷ drop (suc place) bytes
+joined_at separator [] place lt here = absurd (omega arith)
+joined_at separator (b ∷ bytes) zero lt here = ap (λ x. x ∷ bytes) here
+joined_at separator (b ∷ bytes) (suc place) lt here = ap (λ (rest : List ℕ). b ∷ rest) (joined_at separator bytes place (omega arith) here)
