@@ -1,0 +1,10 @@
+pub mod Answers
+pub mod Book
+pub mod Live
+pub mod Meaning
+pub mod Numbered
+pub mod Replies
+pub mod Texts
+pub use Rattle.umem_base.specs.Bounded
+pub use Rattle.umem_base.specs.Pages
+pub use Rattle.script.specs.Plan

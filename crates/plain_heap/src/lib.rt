@@ -1,0 +1,17 @@
+//! Histories of a plain allocator: their entries and texts, the buffers that live, and which histories are
+//! legal and answer a script.
+#![tactic(auto)]
+
+mod entry;
+mod held;
+mod history;
+mod live;
+mod reply;
+mod text;
+
+pub use entry::{Body, Entry};
+pub use held::Held;
+pub use history::History;
+pub use live::Live;
+pub use reply::{Reply, Report};
+pub use text::transcript;
