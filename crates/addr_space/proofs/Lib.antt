@@ -1,0 +1,6 @@
+pub mod Lists
+pub mod Order
+pub mod Bytes
+pub mod Parts
+pub mod Changes
+pub mod Sound

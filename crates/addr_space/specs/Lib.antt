@@ -1,0 +1,5 @@
+pub mod Mapped
+pub mod Spaces
+pub mod Places
+pub mod Lending
+pub mod SpaceLending

@@ -1,0 +1,4 @@
+pub mod CaseLemmas
+pub mod GeometryLemmas
+pub mod RecordLemmas
+pub mod SizeLemmas

@@ -1,0 +1,4 @@
+pub mod Cases
+pub mod Geometry
+pub mod Record
+pub mod Sizes

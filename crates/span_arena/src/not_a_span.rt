@@ -1,0 +1,3 @@
+/// No taken span begins at the address that was given back.
+#[derive(Clone, Copy, Debug, PartialEq, Eq)]
+pub struct NotASpan;
