@@ -31,11 +31,18 @@ FollowsPhases (phase ∷ phases) entries =
     (now : List Entry) × (later : List Entry) × (entries ≡ now ++ later) × ((thread : ℕ) → calls_of thread now ≡ turns_of_thread thread phase) × FollowsPhases phases later
 
 -- where whole pages were handed out, they were the lowest run that fits
+abbrev pub TakesLowestAt : State → Op → Reply → Type 0
+TakesLowestAt state (Alloc slot size) (reply.At address report) = IsLowestRun (IsFreePage state) (pages_for size) address
+TakesLowestAt state op other = ⊤
+
 abbrev pub TakesLowest : State → Body → Type 0
-TakesLowest state (body.Call (Alloc slot size) stack (reply.At address report)) = IsLowestRun (IsFreePage state) (pages_for size) address
-TakesLowest state other = ⊤
+TakesLowest state (body.Call op stack answer) = TakesLowestAt state op answer
+
+-- each entry that handed out whole pages took the lowest run that fits after the entries before it
+abbrev pub AreLowest : List Entry → Type 0
+AreLowest entries = (n : ℕ) (entry : Entry) → slice_get entries n ≡ Some entry → TakesLowest (state_of (take n entries)) entry.body
 
 pub record Answers (plan : Plan) (entries : List Entry) : Type 0 where
   pub legal : IsLegal entries
   pub calls : FollowsPhases plan.phases entries
-  pub lowest : (n : ℕ) (entry : Entry) → slice_get entries n ≡ Some entry → TakesLowest (state_of (take n entries)) entry.body
+  pub lowest : AreLowest entries

@@ -8,7 +8,7 @@ mod tree;
 
 pub use fault::ScriptFault;
 pub use operation::Op;
-pub use read::read_script;
+pub use read::{MOST_BYTES, read_script};
 pub use tree::{Header, Phase, Script, Step};
 
 #[cfg(test)]

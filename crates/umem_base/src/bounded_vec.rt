@@ -69,4 +69,11 @@ impl<T> BoundedVec<T> {
     {
         &self.items
     }
+
+    /// The items as a vector. It takes no memory.
+    pub fn into_vec(self) -> Vec<T>
+        ensures { result.items ≡ self.items }
+    {
+        self.items
+    }
 }

@@ -1,0 +1,42 @@
+ghost use Rattle.std.specs.Prelude.{◌≡◌};
+ghost use Rattle.umem_cli.specs.Codes.{code_of};
+
+/// How a call ended. The numbers are those of the program's exit.
+#[derive(Clone, Copy, Debug, PartialEq, Eq)]
+pub enum Status {
+    Done,
+    /// A command over a core was refused.
+    Refused,
+    /// The words are no command.
+    Usage,
+    /// The file is no script.
+    BadScript,
+    /// The file is no core.
+    BadCore,
+    /// The folder failed, at an opening or a read.
+    ReadFault,
+    /// A stream failed before it had taken all.
+    WriteFault,
+    NoMemory,
+    /// The folder has no such file.
+    NoFile,
+}
+
+impl Status {
+    /// The number that the program exits with.
+    pub fn code(self) -> u8
+        ensures { result ≡ code_of self }
+    {
+        match self {
+            Status::Done => 0,
+            Status::Refused => 1,
+            Status::Usage => 2,
+            Status::BadScript => 3,
+            Status::BadCore => 4,
+            Status::ReadFault => 5,
+            Status::WriteFault => 6,
+            Status::NoMemory => 7,
+            Status::NoFile => 8,
+        }
+    }
+}
