@@ -2,8 +2,10 @@
 use Rattle.std.specs.Prelude.{◌≡◌, ℕ, ⊤, List, [], ◌∷◌, ◌++◌, take, Some, filter, map, ◌==◌}
 use Rattle.std.specs.List.{slice_get}
 use Rattle.umem_base.specs.Pages.{pages_for, IsLowestRun}
+use Rattle.script.specs.declared.operation.Op.{Op}
 use Rattle.script.specs.declared.operation.Op.TheVariants.{Alloc}
 use Rattle.script.specs.Plan.{Call, Turn, Plan}
+use Rattle.plain_heap.specs.declared.reply.Reply.{Reply}
 use Rattle.plain_heap.specs.declared.reply.Reply.TheVariants as reply
 use Rattle.plain_heap.specs.declared.entry.Body.{Body}
 use Rattle.plain_heap.specs.declared.entry.Body.TheVariants as body
