@@ -122,3 +122,19 @@ fn source_goes_on_after_a_fault(rt: HostRuntime) -> Result<(), Fail> {
     }
     Ok(())
 }
+
+// The calls are the creation and two writes.
+#[test]
+fn folder_keeps_what_was_written(rt: HostRuntime) -> Result<(), Fail> {
+    let alloc = rt.alloc();
+    let name = Text::from_slice(alloc, b"a")?;
+    for (failing, kept) in [(9, b"0123".as_slice()), (1, b""), (2, b"01")] {
+        let mut files = MemFolder::new(alloc, vec![in alloc; failing]?);
+        files.put(&name, b"old", 4)?;
+        files.create(&name)?;
+        let whole = files.write(b"01").is_ok() && files.write(b"23").is_ok();
+        assert_eq!(rt; whole, failing == 9);
+        assert_eq!(rt; files.file(&name), Some(kept));
+    }
+    Ok(())
+}
