@@ -1,5 +1,5 @@
 -- Numbered entries, one more or one less.
-use Rattle.std.proofs.Common.{◌≡◌, ℕ, zero, suc, ◌+◌, List, [], ◌∷◌, ◌++◌, length, Some, refl, sym, ap, ◌∙◌, arith}
+use Rattle.std.proofs.Common.{◌≡◌, ℕ, zero, suc, ◌+◌, List, [], ◌∷◌, ◌++◌, length, Some, ap, arith}
 use Rattle.std.specs.List.{slice_get}
 use Rattle.plain_heap.specs.declared.entry.Entry.{Entry}
 use Rattle.plain_heap.specs.Numbered.{IsNumbered}

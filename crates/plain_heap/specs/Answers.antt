@@ -1,9 +1,9 @@
 -- Which histories answer a script.
-use Rattle.std.specs.Prelude.{◌≡◌, ℕ, ⊤, List, [], ◌∷◌, ◌++◌, take, Option, Some, filter, map, ◌==◌}
+use Rattle.std.specs.Prelude.{◌≡◌, ℕ, ⊤, List, [], ◌∷◌, ◌++◌, take, Some, filter, map, ◌==◌}
 use Rattle.std.specs.List.{slice_get}
 use Rattle.umem_base.specs.Pages.{pages_for, IsLowestRun}
 use Rattle.script.specs.declared.operation.Op.{Op}
-use Rattle.script.specs.declared.operation.Op.TheVariants.{Alloc, Free}
+use Rattle.script.specs.declared.operation.Op.TheVariants.{Alloc}
 use Rattle.script.specs.Plan.{Call, Turn, Plan}
 use Rattle.plain_heap.specs.declared.reply.Reply.{Reply}
 use Rattle.plain_heap.specs.declared.reply.Reply.TheVariants as reply

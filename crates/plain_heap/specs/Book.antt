@@ -1,5 +1,5 @@
 -- What is kept of the buffers that were handed out.
-use Rattle.std.specs.Prelude.{ℕ, Option, Some, None, Bool, ⊤, refl}
+use Rattle.std.specs.Prelude.{ℕ, Option, Bool, ⊤, refl}
 use Rattle.std.specs.Ordering.{nat_cmp}
 use Rattle.std.specs.Coded.{Coded, code_by, coded×, coded_ℕ, coded_option}
 use Rattle.std.specs.FinMap.{FinMap, get}

@@ -1,5 +1,5 @@
 -- The buffers that were handed out, by their addresses.
-use Rattle.std.specs.Prelude.{◌≡◌, ℕ, Bool, true, false, Option, Some, None, is_some, ◌==◌, nat_le, nat_eq, if◌then◌else◌}
+use Rattle.std.specs.Prelude.{ℕ, Bool, false, Option, Some, None, ◌==◌, nat_le, if◌then◌else◌}
 use Rattle.plain_heap.specs.declared.held.Held.{Held}
 use Rattle.plain_heap.specs.declared.reply.Reply.{Reply}
 use Rattle.plain_heap.specs.declared.reply.Reply.TheVariants.{Null, Dup, BadAddr, BadCache, BadSize, Redzone, Ok}

@@ -1,12 +1,11 @@
 -- Which answers a plain allocator may give, and which histories are legal.
-use Rattle.std.specs.Prelude.{◌≡◌, ℕ, zero, suc, List, length, take, Option, Some, None, false}
+use Rattle.std.specs.Prelude.{◌≡◌, ℕ, zero, suc, List, take, Some, false}
 use Rattle.std.specs.List.{slice_get}
 use Rattle.umem_base.specs.Pages.{pages_for, IsFreeRun, HasNoRun}
 use Rattle.script.specs.declared.operation.Op.{Op}
 use Rattle.script.specs.declared.operation.Op.TheVariants.{Alloc, Free}
 use Rattle.plain_heap.specs.declared.reply.Reply.{Reply}
 use Rattle.plain_heap.specs.declared.reply.Reply.TheVariants as reply
-use Rattle.plain_heap.specs.declared.reply.Report.{Report}
 use Rattle.plain_heap.specs.declared.reply.Report.TheVariants.{Clean}
 use Rattle.plain_heap.specs.declared.entry.Body.{Body}
 use Rattle.plain_heap.specs.declared.entry.Body.TheVariants.{Call}

@@ -1,5 +1,5 @@
 -- The printed text of histories.
-use Rattle.std.specs.Prelude.{ℕ, Bool, true, false, List, [], ◌∷◌, ◌++◌, length, codes, decimal}
+use Rattle.std.specs.Prelude.{ℕ, Bool, true, false, List, [], ◌++◌, length, codes, decimal}
 use Rattle.std.specs.List.{flat_map}
 use Rattle.umem_base.specs.Numbers.{hexadecimal}
 use Rattle.script.specs.declared.operation.Op.{Op}

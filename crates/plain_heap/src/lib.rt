@@ -15,3 +15,6 @@ pub use history::History;
 pub use live::Live;
 pub use reply::{Reply, Report};
 pub use text::transcript;
+
+#[cfg(test)]
+mod tests;

@@ -27,3 +27,6 @@ pub use sequence::Sequence;
 pub use system::{DiskFolder, OpenFile, StdSink, StdSource};
 pub use text::Text;
 pub use transfer::{WriteFault, read_file, write_whole};
+
+#[cfg(test)]
+mod tests;

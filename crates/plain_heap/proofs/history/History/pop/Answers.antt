@@ -1,4 +1,4 @@
-use Rattle.std.proofs.Common.{◌≡◌, List, [], ◌∷◌, ◌++◌, Option, Some, None, ap, subst}
+use Rattle.std.proofs.Common.{◌≡◌, [], ◌∷◌, ◌++◌, Option, Some, None}
 use Rattle.std.specs.Prelude.{MatchOption}
 use Rattle.umem_base.specs.Bounded.{Bounded}
 use Rattle.plain_heap.specs.declared.entry.Entry.{Entry}

@@ -1,4 +1,4 @@
-use Rattle.std.proofs.Common.{◌≡◌, Option, ap, sym, subst, ◌∙◌}
+use Rattle.std.proofs.Common.{Option, ap, sym, subst, ◌∙◌}
 use Rattle.std.specs.Prelude.{None, IsSome, is_some}
 use Rattle.std.proofs.lemmas.Bool.{false≢true}
 use Rattle.plain_heap.specs.declared.held.Held.{Held}

@@ -1,0 +1,140 @@
+use super::*;
+use std::test::Fail;
+
+#[test]
+fn prints_numbers(rt: HostRuntime) -> Result<(), Fail> {
+    for (value, width, hexadecimal, decimal) in [
+        (0, 0, b"0".as_slice(), b"0".as_slice()),
+        (255, 5, b"   ff", b"  255"),
+        (u64::MAX, 3, b"ffffffffffffffff", b"18446744073709551615"),
+    ] {
+        let mut out = Text::new(rt.alloc());
+        put_hex(&mut out, value, width)?;
+        assert_eq!(rt; out.as_slice(), hexadecimal);
+        out.truncate(0);
+        put_decimal(&mut out, value, width)?;
+        assert_eq!(rt; out.as_slice(), decimal);
+    }
+    Ok(())
+}
+
+#[test]
+fn reads_numbers(rt: HostRuntime) {
+    for (bytes, number) in [
+        (b"0".as_slice(), Ok(0)),
+        (b"255", Ok(255)),
+        (b"007", Ok(7)),
+        (b"18446744073709551615", Ok(u64::MAX)),
+        (b"18446744073709551616", Err(BadNumber::TooLarge)),
+        (b"", Err(BadNumber::NotDigits)),
+        (b"+1", Err(BadNumber::NotDigits)),
+    ] {
+        assert_eq!(rt; read_decimal(bytes), number);
+    }
+}
+
+#[test]
+fn splits_at_the_first(rt: HostRuntime) {
+    for (bytes, parts) in [
+        (
+            b"a b c".as_slice(),
+            Some((b"a".as_slice(), b"b c".as_slice())),
+        ),
+        (b" ", Some((b"", b""))),
+        (b"abc", None),
+        (b"", None),
+    ] {
+        assert_eq!(rt; split_once(bytes, b' '), parts);
+    }
+}
+
+#[test]
+fn gives_the_last_item_back(rt: HostRuntime) -> Result<(), Fail> {
+    let mut list = BoundedVec::with_room(rt.alloc(), 2)?;
+    list.push(5);
+    list.push(6);
+    assert_eq!(rt; list.pop(), Some(6));
+    list.push(7);
+    assert_eq!(rt; list.as_slice(), [5, 7].as_slice());
+    assert_eq!(rt;
+        (list.pop(), list.pop(), list.pop()),
+        (Some(7), Some(5), None)
+    );
+    Ok(())
+}
+
+// The calls are the opening and one read for each piece of 4096 bytes.
+#[test]
+fn reads_whole_files(rt: HostRuntime) -> Result<(), Fail> {
+    let alloc = rt.alloc();
+    let bytes = vec![in alloc; 7; 5000]?;
+    for (failing, name, limit, want) in [
+        (9, b"a".as_slice(), 5000, Ok(bytes.as_slice())),
+        (9, b"empty", 0, Ok(b"")),
+        (9, b"a", 4999, Err(ReadFile::TooLong)),
+        (9, b"b", 5000, Err(ReadFile::Missing)),
+        (0, b"a", 5000, Err(ReadFile::ReadFault)),
+        (0, b"b", 5000, Err(ReadFile::ReadFault)),
+        (2, b"a", 5000, Err(ReadFile::ReadFault)),
+    ] {
+        let mut files = MemFolder::new(alloc, vec![in alloc; failing]?);
+        files.put(&Text::from_slice(alloc, b"a")?, &bytes, 0)?;
+        files.put(&Text::from_slice(alloc, b"empty")?, b"", 0)?;
+        let read = read_file(alloc, &mut files, &Text::from_slice(alloc, name)?, limit);
+        match read {
+            Ok(read) => assert_eq!(rt; Ok(read.as_slice()), want),
+            Err(fault) => assert_eq!(rt; Err(fault), want),
+        }
+    }
+    Ok(())
+}
+
+// A write takes 4 bytes at most.
+#[test]
+fn writes_whole_pieces(rt: HostRuntime) -> Result<(), Fail> {
+    let alloc = rt.alloc();
+    for (failing, room, want, taken) in [
+        (9, 10, Ok(()), b"0123456789".as_slice()),
+        (0, 10, Err(WriteFault), b""),
+        (1, 10, Err(WriteFault), b"0123"),
+        (9, 9, Err(WriteFault), b"01234567"),
+    ] {
+        let mut sink = MemSink::new(alloc, 4, room, vec![in alloc; failing]?)?;
+        assert_eq!(rt; write_whole(&mut sink, b"0123456789"), want);
+        assert_eq!(rt; sink.bytes(), taken);
+    }
+    Ok(())
+}
+
+#[test]
+fn source_goes_on_after_a_fault(rt: HostRuntime) -> Result<(), Fail> {
+    let alloc = rt.alloc();
+    let mut source = MemSource::new(Vec::from_slice(alloc, b"abc")?, vec![in alloc; 1]?);
+    let mut buffer = [0; 2];
+    for (count, held) in [
+        (Ok(2), b"ab".as_slice()),
+        (Err(Failed), b"ab"),
+        (Ok(1), b"cb"),
+        (Ok(0), b"cb"),
+    ] {
+        assert_eq!(rt; source.read(&mut buffer), count);
+        assert_eq!(rt; buffer.as_slice(), held);
+    }
+    Ok(())
+}
+
+// The calls are the creation and two writes.
+#[test]
+fn folder_keeps_what_was_written(rt: HostRuntime) -> Result<(), Fail> {
+    let alloc = rt.alloc();
+    let name = Text::from_slice(alloc, b"a")?;
+    for (failing, kept) in [(9, b"0123".as_slice()), (1, b""), (2, b"01")] {
+        let mut files = MemFolder::new(alloc, vec![in alloc; failing]?);
+        files.put(&name, b"old", 4)?;
+        files.create(&name)?;
+        let whole = files.write(b"01").is_ok() && files.write(b"23").is_ok();
+        assert_eq!(rt; whole, failing == 9);
+        assert_eq!(rt; files.file(&name), Some(kept));
+    }
+    Ok(())
+}
