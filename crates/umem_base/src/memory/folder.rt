@@ -62,7 +62,7 @@ impl MemFolder {
     /// Gives the file these bytes, and takes the memory for `room` bytes after a creation. It hides an older
     /// file of that name. The folder is then idle; on refusal it is as before.
     pub fn put(&mut self, name: &Text, bytes: &[u8], room: usize) -> Result<(), NoMemory>
-        ensures put { OnOk result (contents self.new.files name.now ≡ Some bytes.now) }
+        ensures put { OnOk result (file_named self.new.files name.now ≡ Some (record { name = name.now; bytes = bytes.now; room = room })) }
         ensures others { (other : List ℕ) → other ≢ name.now → file_named self.new.files other ≡ file_named self.old.files other }
         ensures activity { OnOk result (self.new.activity ≡ folder.Idle) }
         ensures err { OnErr result (self.new ≡ self.old) }
