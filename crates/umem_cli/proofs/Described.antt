@@ -1,10 +1,9 @@
 -- What the tables say of the history after a slot was written, and after a buffer more or less.
-use Rattle.std.proofs.Common.{◌≡◌, ℕ, ◌+◌, ◌*◌, ◌^◌, ◌<◌, ◌≤◌, ◌⊎◌, inl, inr, List, length, Option, Some, None, cond, eqb, slice_index, slice_set, refl, sym, ap, subst, ◌∙◌, arith}
-use Rattle.std.specs.FinMap.{get, insert}
+use Rattle.std.proofs.Common.{◌≡◌, ℕ, ◌^◌, ◌<◌, ◌≤◌, inl, inr, List, length, Some, None, cond, eqb, slice_index, slice_set, sym, ap, subst, ◌∙◌, arith}
+use Rattle.std.specs.FinMap.{insert}
 use Rattle.std.proofs.lemmas.Bool.{cases_order}
 use Rattle.std.proofs.lemmas.List.{get_or-set_same, get_or-set_other}
 use Rattle.span_arena.specs.Spans.{Area}
-use Rattle.plain_heap.specs.declared.held.Held.{Held}
 use Rattle.plain_heap.specs.Book.{Book}
 use Rattle.plain_heap.specs.Meaning.{State, Bytes, word_at, with_word, with_slot, with_large, without_buffer, slot_address, arena_base}
 use Rattle.umem_cli.specs.declared.tables.Tables.{Tables}

@@ -1,5 +1,5 @@
 -- A history with one entry more, and the phases that it follows.
-use Rattle.std.proofs.Common.{◌≡◌, ℕ, zero, suc, ◌+◌, ◌<◌, ◌≤◌, ◌⊎◌, inl, inr, Bool, true, false, cond, List, [], ◌∷◌, ◌++◌, length, map, take, Option, Some, None, refl, sym, ap, subst, ◌∙◌, arith}
+use Rattle.std.proofs.Common.{◌≡◌, ℕ, zero, suc, ◌⊎◌, inl, inr, Bool, true, false, cond, List, [], ◌∷◌, ◌++◌, length, map, take, Some, refl, sym, ap, subst, ◌∙◌}
 use Rattle.std.specs.Prelude.{filter, ◌==◌}
 use Rattle.std.specs.List.{slice_get, AllByRecursion}
 use Rattle.std.proofs.lemmas.List.{map-append, append-nil, append_assoc}
@@ -51,12 +51,11 @@ state_push entries last = fold-append after_entry start entries (last ∷ [])
 -- ---- the calls that were made
 
 pub enters_more : (old mid new : List Entry) (turns : List Turn) (step : Step) → EntersAll old mid turns → Enters mid new step → EntersAll old new (turns ++ turn_of step ∷ [])
-enters_more old mid new turns step all one =
-    (
-      all.0 ++ one.0 ∷ [],
-      one.1 ∙ ap (λ (l : List Entry). l ++ one.0 ∷ []) all.1 ∙ append_assoc old all.0 (one.0 ∷ []),
-      map-append turn_in all.0 (one.0 ∷ []) ∙ rw (all.2, one.2) refl,
-    )
+enters_more old mid new turns step all one = (
+  all.0 ++ one.0 ∷ [],
+  one.1 ∙ ap (λ (l : List Entry). l ++ one.0 ∷ []) all.1 ∙ append_assoc old all.0 (one.0 ∷ []),
+  map-append turn_in all.0 (one.0 ∷ []) ∙ rw (all.2, one.2) refl,
+)
 
 one_more : (is_its : Bool) (entry : Entry) (entries : List Entry) (turns : List Turn) → map (λ e. call_in e.body) entries ≡ map (λ turn. turn.call) turns
     → map (λ e. call_in e.body) (cond is_its (entry ∷ entries) entries) ≡ map (λ turn. turn.call) (cond is_its (turn_in entry ∷ turns) turns)

@@ -1,13 +1,12 @@
 -- What a file that was not read means for a run.
-use Rattle.std.proofs.Common.{◌≡◌, ℕ, ◌<◌, Bool, true, false, List, [], length, Option, Some, None, refl, sym, ap, subst, ◌∙◌, arith, nat_le}
-use Rattle.std.specs.Prelude.{Result, Ok, Err, IsErr, IsErrAnd}
+use Rattle.std.proofs.Common.{◌≡◌, ℕ, ◌<◌, false, List, [], length, Option, Some, None, refl, sym, subst, arith, nat_le}
+use Rattle.std.specs.Prelude.{Result, Ok, Err, IsErrAnd}
 use Rattle.std.proofs.lemmas.Bool.Decides.{nat_tests}
 use Rattle.umem_base.specs.Folder.{Files, bytes_of, MayHave}
 use Rattle.umem_base.specs.Transfer.{Are, Exceed, ReadsFile, CountsReadFault}
 use Rattle.umem_base.specs.declared.read_file_error.ReadFile.{ReadFile}
 use Rattle.umem_base.specs.declared.read_file_error.ReadFile.TheVariants as read
 use Rattle.script.specs.Grammar.{script_of, most_bytes}
-use Rattle.script.specs.Plan.{Plan}
 use Rattle.umem_cli.specs.declared.refusal.Refusal.{Refusal}
 use Rattle.umem_cli.specs.Refusals.{refusal_of_read}
 use Rattle.umem_cli.specs.Promise.{Stream, SpellsNone}

@@ -1,5 +1,5 @@
 -- The live buffers and the taken spans, after one more or one less, and the pages that are free.
-use Rattle.std.proofs.Common.{◌≡◌, ◌≢◌, ℕ, zero, suc, ◌+◌, ◌*◌, ◌<◌, ◌≤◌, ◌⊎◌, inl, inr, Bool, true, false, cond, eqb, List, length, Option, Some, None, get_or, refl, sym, ap, subst, ◌∙◌, arith}
+use Rattle.std.proofs.Common.{◌≡◌, ℕ, zero, suc, ◌+◌, ◌*◌, ◌<◌, ◌≤◌, inl, inr, Bool, true, false, cond, eqb, List, Option, Some, None, get_or, refl, sym, ap, subst, ◌∙◌, arith}
 use Rattle.std.specs.Prelude.{Contains, MatchOption, IfSome, Result, Ok, Err, IfErr, IsOk}
 use Rattle.std.specs.Ordering.{nat_cmp, eq_by_cmp}
 use Rattle.std.specs.FinMap.{FinMap, get, insert, get-insert}
@@ -7,7 +7,7 @@ use Rattle.std.proofs.lemmas.Cmp.{nat_cmp_total}
 use Rattle.std.proofs.lemmas.Bool.{cases_eq, ne_eqb, eq-eqb}
 use Rattle.std.proofs.lemmas.Bool.Decides.{nat_tests}
 use Rattle.std.proofs.lemmas.List.Elements.{All-contains, Contains-get_or}
-use Rattle.umem_base.specs.Pages.{page_size, pages_for, IsPage, IsFreeRun, HasNoRun, IsLowestRun}
+use Rattle.umem_base.specs.Pages.{page_size, pages_for, IsFreeRun, HasNoRun, IsLowestRun}
 use Rattle.span_arena.specs.declared.span.Span.{Span}
 use Rattle.span_arena.specs.Spans.{Area, IsFree, IsSound, IsSpanWithin, LiesIn, Gains, Loses, area_end}
 use Rattle.span_arena.specs.declared.not_a_span.NotASpan.{NotASpan}
@@ -17,7 +17,7 @@ use Rattle.plain_heap.specs.declared.reply.Reply.{Reply}
 use Rattle.plain_heap.specs.declared.reply.Reply.TheVariants as reply
 use Rattle.plain_heap.specs.Book.{live_at}
 use Rattle.plain_heap.specs.Live.{live_in, free_reply, reply_to_word}
-use Rattle.plain_heap.specs.Meaning.{State, IsInBuffer, IsFreePage, after_call}
+use Rattle.plain_heap.specs.Meaning.{State, IsFreePage, after_call}
 use Rattle.plain_heap.specs.Replies.{IsAllocReply, IsLargeReply}
 use Rattle.umem_cli.specs.declared.tables.Tables.{Tables}
 use Rattle.umem_cli.specs.Tables.{AreRuns, AreTables, Describe, span_of}
@@ -69,8 +69,8 @@ runs_lose buffers old new address pages runs loses = record {
     | inr ne ↦ loses.kept _ (runs.live a h (sym (live_else buffers address None a ne) ∙ is)) (λ same. ne (sym same))
   ];
   taken = λ s has.
-    let there = runs.taken s (loses.only s has) in
-    (there.0, live_else buffers address None s.base (λ same. loses.gone s has (sym same)) ∙ there.1, there.2);
+      let there = runs.taken s (loses.only s has) in
+      (there.0, live_else buffers address None s.base (λ same. loses.gone s has (sym same)) ∙ there.1, there.2);
 }
 
 -- ---- free pages
@@ -81,20 +81,19 @@ free_in_arena tables state are describe address free = record {
   from = rw are.base free.0.1;
   to = rw (are.base, are.pages) (omega (arith, free.0.0, free.0.1, free.0.2));
   untaken = λ k d lt lies.
-    let s = get_or tables.arena.spans k d in
-    let there = are.runs.taken s (Contains-get_or tables.arena.spans k d lt) in
-    let long : s.pages ≡ pages_for there.0.size = ap (λ (x : Span). x.pages) there.2 in
-    free.1 (s.base, there.0, ap live_in (sym (describe.buffers s.base)) ∙ there.1, (lies.0, subst (λ (x : ℕ). address < s.base + page_size * x) long lies.1));
+      let s = get_or tables.arena.spans k d in
+      let there = are.runs.taken s (Contains-get_or tables.arena.spans k d lt) in
+      let long : s.pages ≡ pages_for there.0.size = ap (λ (x : Span). x.pages) there.2 in
+      free.1 (s.base, there.0, ap live_in (sym (describe.buffers s.base)) ∙ there.1, (lies.0, subst (λ (x : ℕ). address < s.base + page_size * x) long lies.1));
 }
 
 pub free_in_history : (tables : Tables) (state : State) → AreTables tables → Describe tables state → (address : ℕ) → IsFree tables.arena address → IsFreePage state address
 free_in_history tables state are describe address free =
-    let to : address + page_size ≤ 1048576 + page_size * 1024 = subst (λ (x : ℕ). address + page_size ≤ 1048576 + page_size * x) are.pages (subst (λ (x : ℕ). address + page_size ≤ x + page_size * tables.arena.pages) are.base free.to) in
-    (
+    let to : address + page_size ≤ 1048576 + page_size * 1024 = subst (λ (x : ℕ). address + page_size ≤ 1048576 + page_size * x) are.pages (subst (λ (x : ℕ). address + page_size ≤ x + page_size * tables.arena.pages) are.base free.to) in (
       (free.page, subst (λ (x : ℕ). x ≤ address) are.base free.from, omega (arith, to)),
       λ inside.
-        let at = are.runs.live inside.0 inside.1 (ap live_in (describe.buffers inside.0) ∙ inside.2) in
-        All-contains (λ (s : Span). ¬ LiesIn s address) tables.arena.spans (span_of inside.0 inside.1) free.untaken at inside.3,
+          let at = are.runs.live inside.0 inside.1 (ap live_in (describe.buffers inside.0) ∙ inside.2) in
+          All-contains (λ (s : Span). ¬ LiesIn s address) tables.arena.spans (span_of inside.0 inside.1) free.untaken at inside.3,
     )
 
 run_over : (P Q : ℕ → Type 0) → ((address : ℕ) → P address → Q address) → (pages base : ℕ) → IsFreeRun P pages base → IsFreeRun Q pages base

@@ -1,5 +1,5 @@
 -- What the two steps of a run give out: the transcript or a refusal, and the line of a refusal.
-use Rattle.std.specs.Prelude.{◌≡◌, ℕ, ◌⊎◌, ⊤, List, Result, Ok, Err}
+use Rattle.std.specs.Prelude.{◌≡◌, ℕ, ◌⊎◌, List, Result, Ok, Err}
 use Rattle.umem_base.specs.Folder.{Files}
 use Rattle.umem_cli.specs.declared.refusal.Refusal.{Refusal}
 use Rattle.umem_cli.specs.declared.refusal.Refusal.TheVariants as refusal

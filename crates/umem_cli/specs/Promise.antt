@@ -1,5 +1,5 @@
 -- What a call of the program gives out.
-use Rattle.std.specs.Prelude.{◌≡◌, ℕ, ◌<◌, ◌⊎◌, ⊤, List, [], ◌∷◌, length, take, Option, Some, None, false, codes, Result, Ok, Err}
+use Rattle.std.specs.Prelude.{◌≡◌, ℕ, ◌<◌, ◌⊎◌, ⊤, List, [], ◌∷◌, length, take, Option, Some, None, false, codes}
 use Rattle.std.specs.Io.KnownBytes.{Appends}
 use Rattle.umem_base.specs.Faults.{Rose}
 use Rattle.umem_base.specs.Folder.{Files, bytes_of, MayHave, MayLack}

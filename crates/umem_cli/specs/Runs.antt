@@ -1,5 +1,5 @@
 -- A run of a script: when its history and its tables go together, and what a step adds.
-use Rattle.std.specs.Prelude.{◌≡◌, ℕ, ◌+◌, ◌^◌, ◌<◌, ◌≤◌, List, [], ◌∷◌, ◌++◌, length, map}
+use Rattle.std.specs.Prelude.{◌≡◌, ◌+◌, ◌^◌, ◌<◌, ◌≤◌, List, [], ◌∷◌, ◌++◌, length, map}
 use Rattle.script.specs.declared.tree.Step.{Step}
 use Rattle.script.specs.Plan.{Turn, turn_of}
 use Rattle.umem_base.specs.Bounded.{Bounded}

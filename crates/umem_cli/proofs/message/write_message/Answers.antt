@@ -1,4 +1,4 @@
-use Rattle.std.proofs.Common.{◌≡◌, ℕ, List, ◌++◌, sym, ap, subst}
+use Rattle.std.proofs.Common.{ℕ, List, ◌++◌, subst}
 use Rattle.std.specs.Prelude.{codes}
 use Rattle.std.specs.Io.KnownBytes.{Appends}
 use Rattle.umem_base.specs.Transfer.{WritesWhole}
@@ -22,7 +22,7 @@ returns-in_err-write_whole-2-clause-taken g c =
     let reason = reason_text c.args.refusal in
     let front = subst (λ (l : List ℕ). Front first second l) c.as_slice.ensures c.in_err-write_whole-2.ensures.taken in
     front_written start second (codes "umem: " ++ (name ++ reason)) c.from_residual-in_err-write_whole-2.result c.from_residual-in_err-write_whole-2.ensures.0
-        (front_behind start first second (codes "umem: ") (name ++ reason) c.in_ok-write_whole.ensures.taken (front_more first second name reason front))
+    (front_behind start first second (codes "umem: ") (name ++ reason) c.in_ok-write_whole.ensures.taken (front_more first second name reason front))
 
 pub returns-clause-taken : goal.returns-clause-taken
 returns-clause-taken g c =

@@ -1,4 +1,4 @@
-use Rattle.std.proofs.Common.{◌≡◌, ℕ, List, ◌++◌}
+use Rattle.std.proofs.Common.{ℕ, List, ◌++◌}
 use Rattle.std.specs.Prelude.{codes}
 use Rattle.umem_cli.proofs.Streams.{front_more, front_behind, front_written, whole_behind}
 use Rattle.umem_cli.proofs.message.write_usage.Goals as goal
@@ -24,7 +24,7 @@ returns-in_err-write_whole-2-clause-taken g c =
     let first = g.E.Sink.taken c.write_whole.new.to in
     let second = g.E.Sink.taken c.write_whole-2.new.to in
     front_written start second (run ++ (mdb ++ make)) c.from_residual-in_err-write_whole-2.result c.from_residual-in_err-write_whole-2.ensures.0
-        (front_behind start first second run (mdb ++ make) c.in_ok-write_whole.ensures.taken (front_more first second mdb make c.in_err-write_whole-2.ensures.taken))
+    (front_behind start first second run (mdb ++ make) c.in_ok-write_whole.ensures.taken (front_more first second mdb make c.in_err-write_whole-2.ensures.taken))
 
 pub returns-clause-taken : goal.returns-clause-taken
 returns-clause-taken g c =

@@ -1,4 +1,3 @@
-use Rattle.std.proofs.Common.{◌≡◌, ℕ, List, length}
 use Rattle.umem_cli.specs.Promise.{stream}
 use Rattle.umem_cli.proofs.Readings.{not_read}
 use Rattle.umem_cli.proofs.script_run.print_transcript.Goals as goal

@@ -1,9 +1,8 @@
-use Rattle.std.proofs.Common.{◌≡◌, ℕ, List, [], ◌∷◌, ◌++◌, length, sym, ap, subst, ◌∙◌, arith}
+use Rattle.std.proofs.Common.{List, length, ap, ◌∙◌, arith}
 use Rattle.std.proofs.lemmas.List.{length_push}
 use Rattle.plain_heap.specs.declared.entry.Entry.{Entry}
 use Rattle.plain_heap.specs.declared.entry.Body.TheVariants as body
 use Rattle.plain_heap.specs.Meaning.{state_of}
-use Rattle.umem_cli.specs.Tables.{Describe}
 use Rattle.umem_cli.proofs.Histories.{legal_push, lowest_push, state_push}
 use Rattle.umem_cli.proofs.run.Run.perform.Goals as goal
 

@@ -1,13 +1,10 @@
-use Rattle.std.proofs.Common.{rules, ◌≡◌, ◌≤◌, ℕ, List, length, Option, Some, None, slice_index, slice_set, refl, sym, ap, subst, ◌∙◌, arith}
+use Rattle.std.proofs.Common.{rules, ◌≡◌, ◌≤◌, ℕ, length, None, refl, sym, ap, subst, ◌∙◌, arith}
 use Rattle.umem_base.specs.Pages.{pages_for, HasNoRun, IsLowestRun}
 use Rattle.span_arena.specs.Spans.{Area, IsFree, Gains, with_span}
 use Rattle.plain_heap.specs.declared.held.Held.{Held}
 use Rattle.plain_heap.specs.declared.reply.Reply.TheVariants as reply
 use Rattle.plain_heap.specs.declared.reply.Report.TheVariants.{Clean}
-use Rattle.plain_heap.specs.Book.{live_at}
-use Rattle.plain_heap.specs.Meaning.{IsFreePage, with_large, arena_base}
-use Rattle.umem_cli.specs.declared.tables.Tables.{Tables}
-use Rattle.umem_cli.specs.Tables.{span_of}
+use Rattle.plain_heap.specs.Meaning.{with_large, arena_base}
 use Rattle.umem_cli.proofs.Described.{slot_written, large_given}
 use Rattle.umem_cli.proofs.Runs.{some_pages, base_from, match_some, match_none, if_some, large_reply, runs_gain, fresh_base, lowest_in_history, none_in_history}
 use Rattle.umem_cli.proofs.tables.Tables.allocate.Goals as goal

@@ -1,11 +1,8 @@
-use Rattle.std.proofs.Common.{◌≡◌, ℕ, [], Option, Some, None, refl, sym, ap, subst, ◌∙◌, arith}
-use Rattle.std.specs.Prelude.{Contains}
+use Rattle.std.proofs.Common.{[], Option, sym, ap, ◌∙◌, arith}
 use Rattle.std.specs.Ordering.{nat_cmp}
-use Rattle.std.specs.FinMap.{get, get-empty}
+use Rattle.std.specs.FinMap.{get-empty}
 use Rattle.std.specs.FinMap as map
-use Rattle.std.proofs.lemmas.Cmp.{nat_cmp_total}
 use Rattle.span_arena.specs.Spans.{Area}
-use Rattle.span_arena.specs.declared.span.Span.{Span}
 use Rattle.plain_heap.specs.declared.held.Held.{Held}
 use Rattle.plain_heap.specs.Live.{live_in}
 use Rattle.umem_cli.specs.Tables.{AreRuns}

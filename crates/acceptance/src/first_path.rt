@@ -1,0 +1,121 @@
+//! The first scripts, and each fault that may meet them.
+
+use crate::scene::{Failing, NEVER, NOTHING, call};
+use std::test::Fail;
+use umem_cli::Status;
+
+const FIRST: &[u8] = b"umem 1 cpus 1 threads 1\nphase\n0 alloc $1 24\n0 free $1 24\n";
+
+const FIRST_TRANSCRIPT: &[u8] = b"transcript 1 cpus 1 threads 1 guards off\n\
+    0 0 alloc $1 24 -> ok 100000\n\
+    1 0 free $1 24 -> ok\n\
+    end 2\n";
+
+const USAGE: &[u8] = b"usage: umem run SCRIPT [--core FILE] [--debug LIST] [--logging LIST]\n\
+    usage: umem mdb CORE\n\
+    usage: umem make --seed N --ops N [--debug LIST] [--logging LIST]\n";
+
+const RUN: [&str; 2] = ["run", "first.umem"];
+
+// The first script, an arena that is full, frees of a wrong size and of nothing, and no call at all.
+#[test]
+fn runs_scripts(rt: HostRuntime) -> Result<(), Fail> {
+    for (script, transcript) in [
+        (FIRST, FIRST_TRANSCRIPT),
+        (
+            b"umem 1 cpus 1 threads 1\nphase\n0 alloc $1 4194304\n0 alloc $2 1\n",
+            b"transcript 1 cpus 1 threads 1 guards off\n\
+            0 0 alloc $1 4194304 -> ok 100000\n\
+            1 0 alloc $2 1 -> nospace\n\
+            end 2\n",
+        ),
+        (
+            b"umem 1 cpus 1 threads 1\nphase\n0 alloc $0 4097\n0 alloc $1 1\n0 free $0 4096\n\
+            0 free $0 4097\n0 free $0 4097\n0 alloc $511 0\n0 alloc $2 8192\n0 alloc $3 8193\n",
+            b"transcript 1 cpus 1 threads 1 guards off\n\
+            0 0 alloc $0 4097 -> ok 100000\n\
+            1 0 alloc $1 1 -> ok 102000\n\
+            2 0 free $0 4096 -> badsize\n\
+            3 0 free $0 4097 -> ok\n\
+            4 0 free $0 4097 -> null\n\
+            5 0 alloc $511 0 -> null\n\
+            6 0 alloc $2 8192 -> ok 100000\n\
+            7 0 alloc $3 8193 -> ok 103000\n\
+            end 8\n",
+        ),
+        (
+            b"umem 1 cpus 1 threads 1\nphase\n",
+            b"transcript 1 cpus 1 threads 1 guards off\nend 0\n",
+        ),
+    ] {
+        let outcome = call(&rt, rt.alloc(), &RUN, script, NOTHING)?;
+        assert_eq!(rt; outcome.status, Status::Done);
+        assert_eq!(rt; outcome.out.bytes(), transcript);
+        assert_eq!(rt; outcome.err.bytes(), b"".as_slice());
+    }
+    Ok(())
+}
+
+#[test]
+fn refuses_words_files_and_scripts(rt: HostRuntime) -> Result<(), Fail> {
+    for (words, script, status, line) in [
+        (
+            RUN.as_slice(),
+            b"".as_slice(),
+            Status::BadScript,
+            b"umem: first.umem: no script\n".as_slice(),
+        ),
+        (
+            &RUN,
+            b"umem 1 cpus 1 threads 1\nphase\n0 alloc $1 24",
+            Status::BadScript,
+            b"umem: first.umem: no script\n",
+        ),
+        (
+            &["run", "other"],
+            FIRST,
+            Status::NoFile,
+            b"umem: other: no such file\n",
+        ),
+        (&[], FIRST, Status::Usage, USAGE),
+        (&["run"], FIRST, Status::Usage, USAGE),
+        (&["ru", "first.umem"], FIRST, Status::Usage, USAGE),
+        (&["run", "first.umem", "more"], FIRST, Status::Usage, USAGE),
+    ] {
+        let outcome = call(&rt, rt.alloc(), words, script, NOTHING)?;
+        assert_eq!(rt; outcome.status, status);
+        assert_eq!(rt; outcome.out.bytes(), b"".as_slice());
+        assert_eq!(rt; outcome.err.bytes(), line);
+    }
+    Ok(())
+}
+
+// The folder is called for the opening, the bytes and their end; the output takes 16 bytes a call; the line
+// of a refusal is three pieces.
+#[test]
+fn ends_at_each_fault(rt: HostRuntime) -> Result<(), Fail> {
+    let line = b"umem: first.umem: read failed\n".as_slice();
+    for (files, out, err, status, taken, said) in [
+        (0, NEVER, NEVER, Status::ReadFault, 0, 30),
+        (1, NEVER, NEVER, Status::ReadFault, 0, 30),
+        (2, NEVER, NEVER, Status::ReadFault, 0, 30),
+        (3, NEVER, NEVER, Status::Done, 97, 0),
+        (NEVER, 0, NEVER, Status::WriteFault, 0, 0),
+        (NEVER, 1, NEVER, Status::WriteFault, 16, 0),
+        (NEVER, 5, NEVER, Status::WriteFault, 80, 0),
+        (NEVER, 6, NEVER, Status::WriteFault, 96, 0),
+        (NEVER, 7, NEVER, Status::Done, 97, 0),
+        (0, NEVER, 0, Status::WriteFault, 0, 0),
+        (0, NEVER, 1, Status::WriteFault, 0, 6),
+        (0, NEVER, 2, Status::WriteFault, 0, 16),
+        (0, NEVER, 3, Status::ReadFault, 0, 30),
+        (0, 0, NEVER, Status::ReadFault, 0, 30),
+    ] {
+        let failing = Failing { files, out, err };
+        let outcome = call(&rt, rt.alloc(), &RUN, FIRST, failing)?;
+        assert_eq!(rt; outcome.status, status);
+        assert_eq!(rt; outcome.out.bytes(), &FIRST_TRANSCRIPT[..taken]);
+        assert_eq!(rt; outcome.err.bytes(), &line[..said]);
+    }
+    Ok(())
+}
