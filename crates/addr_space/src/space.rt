@@ -1,6 +1,7 @@
 ghost use Rattle.std.specs.Prelude.{◌≡◌, ℕ, ◌+◌, ◌*◌, ◌%◌, ◌<◌, ◌≤◌, ◌^◌, ◌↔◌, List, [], None, length, MatchOption, MatchResult, MatchBool, IfSome, IfNone, OnOk, OnErr, IfOk, Contains, IsTrue, slice_index, slice_index_or};
 ghost use Rattle.std.specs.List.{HoldsAt, slice_range};
-ghost use Rattle.std.specs.Int.{w64, to_le_bytes};
+ghost use Rattle.std.specs.Int as int;
+ghost use Rattle.std.specs.Int.{to_le_bytes};
 ghost use Rattle.std.specs.Borrow.{sem};
 ghost use Rattle.umem_base.specs.Pages.{page_size, IsPage};
 ghost use Rattle.addr_space.specs.Mapped.{Mapped};
@@ -146,7 +147,7 @@ impl Space {
     /// The word at an address, its lowest byte first.
     pub fn load_word(&self, at: u64) -> Result<u64, Unmapped>
         ensures { MatchResult result
-            (λ word. Reads self.now at 8 (λ k. slice_index (to_le_bytes w64 word) k))
+            (λ word. Reads self.now at 8 (λ k. slice_index (to_le_bytes int.w64 word) k))
             (λ _. HasUnmapped self.now at 8) }
     {
         if let Some(part) = self.bytes_of(at, 8) {
@@ -163,7 +164,7 @@ impl Space {
 
     /// Writes the word, its lowest byte first. On a refusal nothing changed.
     pub fn store_word(&mut self, at: u64, value: u64) -> Result<(), Unmapped>
-        ensures stored { OnOk result (Writes self.old self.new at 8 (λ k. slice_index (to_le_bytes w64 value) k)) }
+        ensures stored { OnOk result (Writes self.old self.new at 8 (λ k. slice_index (to_le_bytes int.w64 value) k)) }
         ensures refused { OnErr result (HasUnmapped self.old at 8) }
         ensures err { OnErr result (self.new ≡ self.old) }
     {
@@ -201,7 +202,7 @@ impl Space {
     /// Writes one word again and again, its lowest byte first.
     pub fn fill(&mut self, at: u64, words: u64, value: u64)
         requires { IsInRun (runs_of self.old) at (8 * words) }
-        ensures { Writes self.old self.new at (8 * words) (λ k. slice_index (to_le_bytes w64 value) (k % 8)) }
+        ensures { Writes self.old self.new at (8 * words) (λ k. slice_index (to_le_bytes int.w64 value) (k % 8)) }
     {
         let _ = &self.runs;
         let count = (8 * words) as usize;
@@ -255,7 +256,7 @@ impl Space {
 }
 
 fn fill_words(part: &mut [u8], value: u64)
-    ensures { (k : ℕ) → k < length part.new → slice_index part.new k ≡ slice_index (to_le_bytes w64 value) (k % 8) }
+    ensures { (k : ℕ) → k < length part.new → slice_index part.new k ≡ slice_index (to_le_bytes int.w64 value) (k % 8) }
 {
     let bytes = value.to_le_bytes();
     for (offset, slot) in part.iter_mut().enumerate() {

@@ -1,6 +1,7 @@
 -- What the entries of a history mean: the buffers that live, and the byte at each mapped address.
 use Rattle.std.specs.Prelude.{◌≡◌, ℕ, ◌+◌, ◌-◌, ◌*◌, ◌<◌, ◌≤◌, ◌⊎◌, Bool, List, [], ◌∷◌, Option, Some, None, fold, slice_index, ◌==◌, ◌&&◌, nat_lt, nat_le, if◌then◌else◌}
-use Rattle.std.specs.Int.{w64, to_le_bytes, from_le_bytes}
+use Rattle.std.specs.Int as int
+use Rattle.std.specs.Int.{to_le_bytes, from_le_bytes}
 use Rattle.umem_base.specs.Pages.{page_size, pages_for, IsPage}
 use Rattle.script.specs.declared.operation.Op.{Op}
 use Rattle.script.specs.declared.operation.Op.TheVariants.{Alloc, Free}
@@ -40,7 +41,7 @@ live state address = live_in (state.buffers address)
 
 -- the word at an address, least byte first
 abbrev pub word_at : Bytes → ℕ → ℕ
-word_at bytes at = from_le_bytes w64 (bytes at ∷ bytes (at + 1) ∷ bytes (at + 2) ∷ bytes (at + 3) ∷ bytes (at + 4) ∷ bytes (at + 5) ∷ bytes (at + 6) ∷ bytes (at + 7) ∷ [])
+word_at bytes at = from_le_bytes int.w64 (bytes at ∷ bytes (at + 1) ∷ bytes (at + 2) ∷ bytes (at + 3) ∷ bytes (at + 4) ∷ bytes (at + 5) ∷ bytes (at + 6) ∷ bytes (at + 7) ∷ [])
 
 -- the word of a slot
 abbrev pub slot_word : State → ℕ → ℕ
@@ -51,7 +52,7 @@ abbrev pub is_within : ℕ → ℕ → ℕ → Bool
 is_within base length address = nat_le base address && nat_lt address (base + length)
 
 abbrev pub with_word : Bytes → ℕ → ℕ → Bytes
-with_word bytes at word address = if is_within at 8 address then slice_index (to_le_bytes w64 word) (address - at) else bytes address
+with_word bytes at word address = if is_within at 8 address then slice_index (to_le_bytes int.w64 word) (address - at) else bytes address
 
 abbrev pub with_zeros : Bytes → ℕ → ℕ → Bytes
 with_zeros bytes at length address = if is_within at length address then 0 else bytes address

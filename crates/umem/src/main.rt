@@ -1,9 +1,8 @@
-// The program `umem`: runs allocation scripts over the system's files and streams.
+//! The program `umem`: runs allocation scripts over the system's files and streams.
 #![tactic(auto)]
 
-use std::env;
-use std::io;
 use std::process::ExitCode;
+use std::{env, io};
 use umem_base::{DiskFolder, NoGate, StdSink, StdSource};
 use umem_cli::{Status, umem};
 

@@ -1,6 +1,7 @@
 -- The words that are left after a word or zeros were written.
 use Rattle.std.proofs.Common.{◌≡◌, ℕ, ◌+◌, ◌^◌, ◌<◌, ◌≤◌, true, false, refl, ap, subst, arith, slice_index}
-use Rattle.std.specs.Int.{w64, to_le_bytes}
+use Rattle.std.specs.Int as int
+use Rattle.std.specs.Int.{to_le_bytes}
 use Rattle.std.proofs.lemmas.Nat.{from_le_bytes-to_le_bytes_8}
 use Rattle.std.proofs.lemmas.Bool.Decides.{nat_tests}
 use Rattle.plain_heap.specs.Meaning.{Bytes, word_at, with_word, with_zeros, is_within}
@@ -14,8 +15,8 @@ below at length address lt = grind (arith, nat_tests, lt)
 above : (at length address : ℕ) → at + length ≤ address → is_within at length address ≡ false
 above at length address le = grind (arith, nat_tests, le)
 
-byte_set : (bytes : Bytes) (at word k : ℕ) → k < 8 → with_word bytes at word (at + k) ≡ slice_index (to_le_bytes w64 word) k
-byte_set bytes at word k lt = rw (inside at 8 k lt) (ap (slice_index (to_le_bytes w64 word)) (omega arith))
+byte_set : (bytes : Bytes) (at word k : ℕ) → k < 8 → with_word bytes at word (at + k) ≡ slice_index (to_le_bytes int.w64 word) k
+byte_set bytes at word k lt = rw (inside at 8 k lt) (ap (slice_index (to_le_bytes int.w64 word)) (omega arith))
 
 sum_zero : (n : ℕ) → n + 0 ≡ n
 sum_zero n = omega arith
@@ -28,7 +29,7 @@ same_word old new at same =
 
 pub word_set : (bytes : Bytes) (at word : ℕ) → word < 2 ^ 64 → word_at (with_word bytes at word) at ≡ word
 word_set bytes at word lt =
-    let first = subst (λ (x : ℕ). with_word bytes at word x ≡ slice_index (to_le_bytes w64 word) 0) (sum_zero at) (byte_set bytes at word 0 (omega arith)) in
+    let first = subst (λ (x : ℕ). with_word bytes at word x ≡ slice_index (to_le_bytes int.w64 word) 0) (sum_zero at) (byte_set bytes at word 0 (omega arith)) in
     rw (first, byte_set bytes at word 1 (omega arith), byte_set bytes at word 2 (omega arith), byte_set bytes at word 3 (omega arith), byte_set bytes at word 4 (omega arith), byte_set bytes at word 5 (omega arith), byte_set bytes at word 6 (omega arith), byte_set bytes at word 7 (omega arith))
     (from_le_bytes-to_le_bytes_8 word lt)
 

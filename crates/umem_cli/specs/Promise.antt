@@ -138,3 +138,7 @@ IsDone other = ⊥
 abbrev pub IsComplete : Files → List ℕ → Seen → Seen → Status → Type 0
 IsComplete files name before after status =
     (bytes : List ℕ) (plan : Plan) → bytes_of files name ≡ Some bytes → script_of bytes ≡ Some plan → HasNoFault before after → IsDone status
+
+-- where the words ask for a script that is there and nothing failed, it was run
+abbrev pub IsCompleteFor : List (List ℕ) → Files → Seen → Seen → Status → Type 0
+IsCompleteFor words files before after status = (name : List ℕ) → IsRunOf words name → IsComplete files name before after status

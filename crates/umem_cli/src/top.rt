@@ -1,6 +1,6 @@
 ghost use Rattle.std.specs.Prelude.{◌≡◌, ℕ, List, map, MatchOption};
 ghost use Rattle.std.specs.String.{string_bytes};
-ghost use Rattle.umem_cli.specs.Promise.{stream, seen, GivenFor, IsRunOf};
+ghost use Rattle.umem_cli.specs.Promise.{stream, seen, GivenFor, IsCompleteFor, IsRunOf};
 
 use crate::job::Job;
 use crate::message::write_usage;
@@ -24,6 +24,10 @@ pub fn umem<R: Threads + Wait + Sync, S: Source, O: Sink, E: Sink, F: Folder, G:
     gate: &G,
 ) -> Status
     ensures given { GivenFor (map string_bytes words.now) (F.files files.old)
+        (seen (F.read_faults files.old) (stream (O.taken out.old) (O.faults out.old)) (stream (E.taken err.old) (E.faults err.old)))
+        (seen (F.read_faults files.new) (stream (O.taken out.new) (O.faults out.new)) (stream (E.taken err.new) (E.faults err.new)))
+        result }
+    ensures complete { IsCompleteFor (map string_bytes words.now) (F.files files.old)
         (seen (F.read_faults files.old) (stream (O.taken out.old) (O.faults out.old)) (stream (E.taken err.old) (E.faults err.old)))
         (seen (F.read_faults files.new) (stream (O.taken out.new) (O.faults out.new)) (stream (E.taken err.new) (E.faults err.new)))
         result }
