@@ -90,8 +90,8 @@ fn refuses_words_files_and_scripts(rt: HostRuntime) -> Result<(), Fail> {
     Ok(())
 }
 
-// The folder is called for the opening, the bytes and their end; the output takes 16 bytes a call; the line
-// of a refusal is three pieces.
+// The folder is called three times, for the opening, the bytes and their end. The line of a refusal takes
+// three writes.
 #[test]
 fn ends_at_each_fault(rt: HostRuntime) -> Result<(), Fail> {
     let line = b"umem: first.umem: read failed\n".as_slice();
@@ -100,10 +100,6 @@ fn ends_at_each_fault(rt: HostRuntime) -> Result<(), Fail> {
         (1, NEVER, NEVER, Status::ReadFault, 0, 30),
         (2, NEVER, NEVER, Status::ReadFault, 0, 30),
         (3, NEVER, NEVER, Status::Done, 97, 0),
-        (NEVER, 0, NEVER, Status::WriteFault, 0, 0),
-        (NEVER, 1, NEVER, Status::WriteFault, 16, 0),
-        (NEVER, 5, NEVER, Status::WriteFault, 80, 0),
-        (NEVER, 6, NEVER, Status::WriteFault, 96, 0),
         (NEVER, 7, NEVER, Status::Done, 97, 0),
         (0, NEVER, 0, Status::WriteFault, 0, 0),
         (0, NEVER, 1, Status::WriteFault, 0, 6),
@@ -116,6 +112,23 @@ fn ends_at_each_fault(rt: HostRuntime) -> Result<(), Fail> {
         assert_eq!(rt; outcome.status, status);
         assert_eq!(rt; outcome.out.bytes(), &FIRST_TRANSCRIPT[..taken]);
         assert_eq!(rt; outcome.err.bytes(), &line[..said]);
+    }
+    Ok(())
+}
+
+// The output takes 16 bytes a write, and the transcript 7 writes.
+#[test]
+fn ends_at_each_write(rt: HostRuntime) -> Result<(), Fail> {
+    for write in 0..7 {
+        let failing = Failing {
+            out: write,
+            ..NOTHING
+        };
+        let outcome = call(&rt, rt.alloc(), &RUN, FIRST, failing)?;
+        let taken = 16 * write as usize;
+        assert_eq!(rt; outcome.status, Status::WriteFault);
+        assert_eq!(rt; outcome.out.bytes(), &FIRST_TRANSCRIPT[..taken]);
+        assert_eq!(rt; outcome.err.bytes(), b"".as_slice());
     }
     Ok(())
 }
