@@ -1,0 +1,5 @@
+use Rattle.buftag.proofs.AllocatedChunks.{finding-kept}
+use Rattle.buftag.proofs.laws.stores_beside_the_marks_break_no_rule.Goals as goal
+
+pub returns : goal.returns
+returns c = finding-kept

@@ -1,0 +1,6 @@
+/// Whether a chunk is allocated or free.
+#[derive(Clone, Copy, Debug, PartialEq, Eq)]
+pub enum State {
+    Allocated,
+    Free,
+}
