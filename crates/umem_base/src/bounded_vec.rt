@@ -1,4 +1,4 @@
-ghost use Rattle.std.specs.Prelude.{◌≡◌, ◌+◌, ◌<◌, [], ◌∷◌, ◌++◌, IfOk, MatchOption};
+ghost use Rattle.std.specs.Prelude.{◌≡◌, ◌+◌, ◌<◌, ◌≤◌, [], ◌∷◌, ◌++◌, length, insert, remove, slice_get, IfOk, MatchOption};
 
 use crate::no_memory::NoMemory;
 use std::alloc::Global;
@@ -62,6 +62,29 @@ impl<T> BoundedVec<T> {
         let item = self.items.pop()?;
         self.spare += 1;
         Some(item)
+    }
+
+    /// Puts an item in front of the one at `index`, or behind the last.
+    pub fn insert(&mut self, index: usize, item: T)
+        requires room { 0 < self.old.spare }
+        requires within { index ≤ length self.old.items }
+        ensures items { self.new.items ≡ insert self.old.items index item }
+        ensures spare { self.new.spare + 1 ≡ self.old.spare }
+    {
+        self.items.insert(index, item).unwrap();
+        self.spare -= 1;
+    }
+
+    /// Takes the item at `index`, and its room is spare again.
+    pub fn remove(&mut self, index: usize) -> T
+        requires { index < length self.old.items }
+        ensures item { slice_get self.old.items index ≡ Some result }
+        ensures items { self.new.items ≡ remove self.old.items index }
+        ensures spare { self.new.spare ≡ self.old.spare + 1 }
+    {
+        let item = self.items.remove(index);
+        self.spare += 1;
+        item
     }
 
     pub fn as_slice(&self) -> &[T]
