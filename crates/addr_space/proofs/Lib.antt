@@ -4,3 +4,4 @@ pub mod Bytes
 pub mod Parts
 pub mod Changes
 pub mod Sound
+pub mod Loans

@@ -1,6 +1,6 @@
 -- What a space ends as, once a borrow of some of its bytes has ended.
-use Rattle.std.specs.Prelude.{ℕ, zero, suc, ◌-◌, List, [], ◌∷◌, is_some, if◌then◌else◌}
-use Rattle.std.specs.Borrow.{Lends, MutBor, Fml, Array, u8}
+use Rattle.std.specs.Prelude.{ℕ, zero, suc, ◌-◌, List, [], ◌∷◌, Option, is_some, if◌then◌else◌}
+use Rattle.std.specs.Borrow.{Lends, LendsIf, MutBor, Fml, Array, u8}
 use Rattle.addr_space.specs.Mapped.{Mapped}
 use Rattle.addr_space.specs.Spaces.{byte_in}
 use Rattle.addr_space.specs.Lending.{with_part}
@@ -24,3 +24,7 @@ with_bytes (m ∷ ms) at bytes = if is_some (byte_in m at) then with_part m (at 
 -- s ends with what was written through r over its bytes from an address on
 abbrev pub LendsBytes : MutBor (List Mapped) → ℕ → MutBor (List ℕ) → Fml
 LendsBytes s at r = Lends the_row (Array u8 0) s r (with_bytes s.now at)
+
+-- the same where r is a reference, and at `None` s stays as it is
+abbrev pub LendsBytesIf : MutBor (List Mapped) → ℕ → Option (MutBor (List ℕ)) → Fml
+LendsBytesIf s at r = LendsIf the_row (Array u8 0) s r (with_bytes s.now at) s.now

@@ -7,7 +7,7 @@ ghost use Rattle.umem_base.specs.Pages.{page_size, IsPage};
 ghost use Rattle.addr_space.specs.Mapped.{Mapped};
 ghost use Rattle.addr_space.specs.Spaces.{byte_at, runs_of, Reads, Writes, Maps, Unmaps, HasMapped, IsMapped, HasUnmapped, IsInRun, IsSound};
 ghost use Rattle.addr_space.specs.Places.{Holds, HoldsRange};
-ghost use Rattle.addr_space.specs.SpaceLending.{LendsPartAt, LendsBytes, with_bytes};
+ghost use Rattle.addr_space.specs.SpaceLending.{LendsPartAt, LendsBytesIf, LendsBytes, with_bytes};
 
 use crate::fault::{MapFault, Unmapped};
 use crate::mapping::Mapping;
@@ -233,9 +233,26 @@ impl Space {
         self.place_of(at, count).is_some()
     }
 
-    /// The bytes of a range inside of one run, to be written: what is written there is what the space
-    /// holds afterwards. `is_in_run` tests what it asks.
-    pub fn bytes_mut(&mut self, at: u64, count: usize) -> &mut [u8]
+    /// The bytes of a range, to be written, or `None` where it is empty or not inside of one run: what is
+    /// written there is what the space holds afterwards.
+    pub fn bytes_mut(&mut self, at: u64, count: usize) -> Option<&mut [u8]>
+        // The space ends with the bytes that are last there, and with them it differs at the range alone.
+        ensures* writes_back { sem 𝓛 (LendsBytesIf self.entry at result) }
+        ensures writes { 0 < count → IsInRun (runs_of self.old) at count → (bytes : List ℕ) → length bytes ≡ count →
+            Writes self.old (with_bytes self.old at bytes) at count (λ k. slice_index bytes k) }
+        ensures some { IfSome result (λ _. (0 < count) × IsInRun (runs_of self.old) at count) }
+        ensures none { IfNone result (0 < count → IsInRun (runs_of self.old) at count → ⊥) }
+        ensures bytes { IfSome result (λ s. (length s.now ≡ count) × Reads self.old at count (λ k. slice_index s.now k)) }
+    {
+        match self.place_of(at, count) {
+            Some(place) => Some(self.bytes_mut_at(place, at, count)),
+            None => None,
+        }
+    }
+
+    /// The bytes of a range that is inside of one run, to be written: what is written there is what the
+    /// space holds afterwards. `is_in_run` tests what it asks.
+    pub fn bytes_mut_in_run(&mut self, at: u64, count: usize) -> &mut [u8]
         requires some { 0 < count }
         requires inside { IsInRun (runs_of self.old) at count }
 
@@ -247,10 +264,24 @@ impl Space {
         ensures bytes { Reads self.old at count (λ k. slice_index result.now k) }
         ensures len { length result.now ≡ count }
     {
-        let _ = &self.runs;
         let Some(place) = self.place_of(at, count) else {
             unreachable!()
         };
+        self.bytes_mut_at(place, at, count)
+    }
+
+    fn bytes_mut_at(&mut self, place: Place, at: u64, count: usize) -> &mut [u8]
+        requires some { 0 < count }
+        requires within { place.index < length self.old }
+        requires range { HoldsAt (HoldsRange at place.from count) self.old place.index }
+        ensures* writes_back { sem 𝓛 (LendsBytes self.entry at result) }
+        ensures writes { (bytes : List ℕ) → length bytes ≡ count →
+            Writes self.old (with_bytes self.old at bytes) at count (λ k. slice_index bytes k) }
+        ensures inside { IsInRun (runs_of self.old) at count }
+        ensures len { length result.now ≡ count }
+        ensures bytes { Reads self.old at count (λ k. slice_index result.now k) }
+    {
+        let _ = &self.runs;
         self.part_mut(place.index, place.from, count)
     }
 }

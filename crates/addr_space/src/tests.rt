@@ -103,9 +103,22 @@ fn fills_and_lends(rt: HostRuntime) -> Result<(), Fail> {
     assert_eq!(rt; space.load_word(0x10_4000), Ok(0x0102_0304_0506_0708));
     assert_eq!(rt; space.load_word(0x10_4008), Ok(0));
     if space.is_in_run(0x10_3ff8, 2) {
-        space.bytes_mut(0x10_3ff8, 2).copy_from_slice(b"ab");
+        space.bytes_mut_in_run(0x10_3ff8, 2).copy_from_slice(b"ab");
     }
     assert_eq!(rt; space.bytes_of(0x10_3ff8, 3), Some(b"ab\x06".as_slice()));
+    Ok(())
+}
+
+#[test]
+fn lends_or_refuses(rt: HostRuntime) -> Result<(), Fail> {
+    let mut space = four_runs(&rt)?;
+    let part = space.bytes_mut(0x10_3ff8, 2).ok_or("not in a run")?;
+    part.copy_from_slice(b"ab");
+    assert_eq!(rt; space.bytes_of(0x10_3ff8, 3), Some(b"ab\0".as_slice()));
+    assert!(rt; space.bytes_mut(0x10_3ff8, 0).is_none());
+    // Over the end of the first run into the second, and into the gap.
+    assert!(rt; space.bytes_mut(0x10_0ff8, 16).is_none());
+    assert!(rt; space.bytes_mut(0x10_1ff8, 16).is_none());
     Ok(())
 }
 
