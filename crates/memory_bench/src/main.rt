@@ -1,10 +1,13 @@
-//! What bench/replayed_memory.sh times: words stored and loaded over many runs, and spans taken and given back.
+//! What the benches time: words stored and loaded over many runs, spans taken and given back, and rounds
+//! put into many slabs and taken again.
 #![tactic(auto)]
 
 use addr_space::Space;
+use slab_layer::{Round, Slabs, rounds_from};
 use span_arena::Arena;
 use std::alloc::Global;
 use std::{env, io};
+use umem_base::NoMemory;
 
 const RUNS: u64 = 1024;
 
@@ -14,11 +17,19 @@ const WORDS: u64 = 1_000_000;
 
 const SPANS: u64 = 100_000;
 
+const SLABS: u32 = 1024;
+
+/// The rounds of each slab.
+const ROUNDS: u32 = 512;
+
+const MOVES: u64 = 1_000_000;
+
 fn main(rt: HostRuntime) -> io::Result<()> {
     for word in env::args(&rt)?.skip(1) {
         let done = match word.as_str() {
             "space" => store_and_load(rt.alloc()),
             "arena" => take_and_give_back(rt.alloc()),
+            "slabs" => put_and_take(rt.alloc()).unwrap_or(0),
             _ => 0,
         };
         println!(rt; "{word} {done}")?;
@@ -60,4 +71,45 @@ fn take_and_give_back(alloc: Global) -> u64 {
         }
     }
     right
+}
+
+/// Slabs whose rounds are all in their lists.
+fn full_slabs(alloc: Global) -> Result<Slabs, NoMemory> {
+    let mut slabs = Slabs::new(alloc, 0);
+    for slab in 0..SLABS {
+        slabs.make_room(ROUNDS)?;
+        let rounds = rounds_from(alloc, slab * ROUNDS, ROUNDS)?;
+        slabs.add_slab(PAGE_BYTES * u64::from(slab), rounds);
+    }
+    Ok(slabs)
+}
+
+/// Puts a round that was drawn from those taken, and takes the lowest one, in turn, with half of the rounds
+/// taken at the start. Counts what was done.
+fn put_and_take(alloc: Global) -> Result<u64, NoMemory> {
+    let mut slabs = full_slabs(alloc)?;
+    let mut held: Vec<Round> = Vec::new(alloc);
+    for _ in 0..SLABS * ROUNDS / 2 {
+        if let Some(round) = slabs.take() {
+            held.push(round)?;
+        }
+    }
+    let mut draw = 1u64;
+    let mut right = 0;
+    for step in 0..MOVES {
+        draw = draw
+            .wrapping_mul(6_364_136_223_846_793_005)
+            .wrapping_add(1_442_695_040_888_963_407);
+        let number = (draw / 4_294_967_296) as usize;
+        if step % 2 == 0 && !held.is_empty() {
+            let round = held.swap_remove(number % held.len());
+            if slabs.put(round).is_ok() {
+                right += 1;
+            }
+        } else if let Some(round) = slabs.take() {
+            held.push(round)?;
+            right += 1;
+        }
+    }
+    Ok(right)
 }

@@ -9,7 +9,8 @@ use Rattle.std.specs.contracts.option.Option as OP
 use base.Fraction.{full_share}
 use base.Logic.{id⊢}
 use base.Fml.{Lft, ftrue, flft, fres, flent}
-use mir.Syntax.{named, w64}
+use mir.Syntax as syntax
+use mir.Syntax.{named}
 use mir.Val.{Val, WT, vptr, of_list}
 use contract.BorrowLft.{⊑_static}
 use contract.Monad.{fact}
@@ -90,9 +91,9 @@ bytes_mut_spec 𝓤 𝓛 𝓜 𝓡 wired =
     proved 𝓛 f.ended stayed c 𝓜 𝓡
     (Goes-spent_ref 𝓛 1 (0 ∷ []) tt (plain (λ _. R)), (Goes-dropped 𝓛 1 (plain (λ _. u64)) yes (λ κs x w. refl), (Goes-dropped 𝓛 1 (plain (λ _. usize)) yes (λ κs x w. refl), tt)))
     f.Key.name code.function (code.unfolded 𝓤 𝓛.H 𝓜 𝓡 wired)
-    (λ κs. (mut_vals, (uint_vals w64, (uint_vals w64, tt)))) (λ κs. (mut_Tells (named 0) κs.0 R, (uint_Tells w64, (uint_Tells w64, tt)))) (λ κs qs bounds a _ are.
+    (λ κs. (mut_vals, (uint_vals syntax.w64, (uint_vals syntax.w64, tt)))) (λ κs. (mut_Tells (named 0) κs.0 R, (uint_Tells syntax.w64, (uint_Tells syntax.w64, tt)))) (λ κs qs bounds a _ are.
     let κ = κs.0 in let q = qs.0 in let r = a.0 in let ms = r.now in let at = a.1.0 in let count = a.1.1.0 in let b = r.ref_ptr.0 in let o = r.ref_ptr.1 in
-    let y : W.Ghost = ((κs, qs, bounds, a, (mut_vals r, (uint_vals w64 at, (uint_vals w64 count, tt)))), tt) in
+    let y : W.Ghost = ((κs, qs, bounds, a, (mut_vals r, (uint_vals syntax.w64 at, (uint_vals syntax.w64 count, tt)))), tt) in
     let En = λ (l : ℕ → ℕ). env (code.function).locals l in
     let Arm = λ (l : ℕ → ℕ). any_q (after_seq 𝓤 𝓛.H (Wp 𝓤 𝓛.H 𝓣.C 𝓣.Λ (En l) code.Mir.t-4 (post 𝓤 𝓛.H (at_ret (En l) (W.post y)))) (post 𝓤 𝓛.H (at_ret (En l) (W.post y)))) in
     qed 𝓛 (((‵ (flft κ q) ⊛ ‵ ftrue) ⊛ ‵ (owns (MutRef (named 0) κ R ∷ u64 ∷ usize ∷ []) a y.0.4)) ∷ ‵ ftrue ∷ []) ∵
@@ -106,8 +107,8 @@ bytes_mut_spec 𝓤 𝓛 𝓜 𝓡 wired =
     (lends_shr 𝓛 R (named 0) (α ∷ []) full_share ms b o [] (the_row_laws.shares 𝓛 ms) ((α ∷ [], full_share) ∷ []) (⊑_static (α ∷ [])) (λ x m. m)) $ await ! tt $ split ! $ split ! $
     -- [the `&`; its way back; the token of α; the open borrow; both halves of the name]
     let G = triple_of 𝓛 g.signature (g.spec 𝓛 𝓜.mem 𝓡.returns) in
-    let z : G.Ghost = (((α ∷ [], tt), (full_share, tt), tt, (s, (at, (count, tt))), (shr_vals s, (uint_vals w64 at, (uint_vals w64 count, tt)))), tt) in
-    nothing ! $ owned ! usize _ (uint_Makes 𝓛 w64) count _ (refl, are.1.1.0.1) $ join ! $ owned ! u64 _ (uint_Makes 𝓛 w64) at _ (refl, are.1.0.1) $ join ! $ move ! (1 ∷ 0 ∷ []) $ join ! $
+    let z : G.Ghost = (((α ∷ [], tt), (full_share, tt), tt, (s, (at, (count, tt))), (shr_vals s, (uint_vals syntax.w64 at, (uint_vals syntax.w64 count, tt)))), tt) in
+    nothing ! $ owned ! usize _ (uint_Makes 𝓛 syntax.w64) count _ (refl, are.1.1.0.1) $ join ! $ owned ! u64 _ (uint_Makes 𝓛 syntax.w64) at _ (refl, are.1.0.1) $ join ! $ move ! (1 ∷ 0 ∷ []) $ join ! $
     nothing ! $ move ! (3 ∷ 0 ∷ []) $ join ! $ join ! $ nothing ! $ move ! (1 ∷ 0 ∷ []) $ use2 𝓛 (raw (G.pre z)) (id⊢ 𝓤 _) $
     calls_at ! (framed 𝓤 𝓛.H 𝓜 𝓣) G (finds 𝓤 𝓛 𝓜 𝓡 (code.calls-addr_space::space::Space::place_of 𝓡.env wired)) z
     (and_then ! (get ! refl) (and_then ! (get ! refl) (and_then ! (get ! refl) (no_more !)))) (λ v.
@@ -138,8 +139,8 @@ bytes_mut_spec 𝓤 𝓛 𝓜 𝓡 wired =
           sets ! (of_opd ! (get_in ! (vrt ! refl (fld ! refl (stop !))) (in_variant ! 1 0 refl refl (whole !)))) refl in_type.0 $ sets ! (addr ! (through ! refl (stop !))) refl (tt, tt) $
           -- [the reference; the token of κ; nothing]
           let H = triple_of 𝓛 h.signature (h.spec 𝓛 𝓜.mem 𝓡.returns) in
-          let z' : H.Ghost = ((κs, qs, bounds, (r, (p, (at, (count, tt)))), (mut_vals r, (val p ∷ [], (uint_vals w64 at, (uint_vals w64 count, tt))))), tt) in
-          nothing ! $ owned ! usize _ (uint_Makes 𝓛 w64) count _ (refl, are.1.1.0.1) $ join ! $ owned ! u64 _ (uint_Makes 𝓛 w64) at _ (refl, are.1.0.1) $ join ! $
+          let z' : H.Ghost = ((κs, qs, bounds, (r, (p, (at, (count, tt)))), (mut_vals r, (val p ∷ [], (uint_vals syntax.w64 at, (uint_vals syntax.w64 count, tt))))), tt) in
+          nothing ! $ owned ! usize _ (uint_Makes 𝓛 syntax.w64) count _ (refl, are.1.1.0.1) $ join ! $ owned ! u64 _ (uint_Makes 𝓛 syntax.w64) at _ (refl, are.1.0.1) $ join ! $
           owned ! P.the_row _ (makes P.the_type place.the_plain 𝓛) p _ is_some.3 $ join ! $ move ! (1 ∷ 0 ∷ []) $ join ! $ move ! (1 ∷ 2 ∷ []) $ join ! $ join ! $
           noted ! (HoldsAt (HoldsRange at p.from count) ms p.index) found.2 $ noted ! (p.index < length ms) found.1 $ join ! $ noted ! (0 < count) found.0 $ join ! $
           move ! (1 ∷ 0 ∷ []) $ use2 𝓛 (raw (H.pre z')) (id⊢ 𝓤 _) $

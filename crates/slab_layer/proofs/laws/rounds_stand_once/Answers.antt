@@ -1,0 +1,5 @@
+use Rattle.slab_layer.proofs.SlabLists.{rounds_increase}
+use Rattle.slab_layer.proofs.laws.rounds_stand_once.Goals as goal
+
+pub returns : goal.returns
+returns c = rounds_increase
