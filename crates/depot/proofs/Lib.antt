@@ -1,0 +1,3 @@
+pub mod Drains
+pub mod Racks
+pub mod Trades

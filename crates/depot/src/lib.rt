@@ -1,0 +1,9 @@
+//! The depot of a cache: its full and empty magazines, and their trades with the CPUs.
+#![tactic(auto)]
+
+mod depot;
+
+pub use depot::Depot;
+
+#[cfg(test)]
+mod tests;
