@@ -32,7 +32,7 @@ length-fresh_content content requested true h =
     omega (arith, length-append (replicate requested 0) (drop requested (pattern content fresh_word)), length-replicate {A = ℕ} requested 0, length-drop requested (pattern content fresh_word), length-pattern content fresh_word)
 
 -- a shape by its parts
-abbrev shape_from : ℕ → ℕ → ℕ → Option ℕ → Shape
+abbrev pub shape_from : ℕ → ℕ → ℕ → Option ℕ → Shape
 shape_from size content bufctl class = record { size = size; content = content; bufctl = bufctl; class = class }
 
 -- what stands in the tag stands there as long as it is kept

@@ -1,4 +1,6 @@
 pub mod AllocatedChunks
+pub mod Intact
+pub mod Marks
 pub mod RowLemmas
 pub mod ShapeLemmas
 pub mod Standing

@@ -1,6 +1,7 @@
 -- What follows of a chunk's shape.
 use Rattle.std.proofs.Common.{◌≡◌, ℕ, zero, suc, ◌+◌, ◌-◌, ◌/◌, ◌<◌, ◌≤◌, ◌∙◌, ◌&&◌, Bool, true, false, cond, eqb, leb, List, Option, Some, None, is_some, refl, ap, sym, arith}
 use Rattle.std.specs.Option.{option_eq, option_and_then}
+use Rattle.std.proofs.lemmas.Bool.{and_parts, eqb-true}
 use Rattle.std.proofs.lemmas.Bool.Decides.{nat_tests}
 use Rattle.case_table.specs.Geometry.{content_of}
 use Rattle.case_table.specs.Sizes.{class_for, size_of, IsLeastClass}
@@ -45,6 +46,14 @@ coded_size-small code size e =
     let tests : eqb code (code_of value) && leb value 4096 ≡ true = both.0 in
     let same : value ≡ size = both.1 in
     grind (arith, nat_tests, same, tests)
+
+-- a coded size is the one of the code
+pub coded_size-code : (code size : ℕ) → coded_size code ≡ Some size → code ≡ code_of size
+coded_size-code code size e =
+    let value = (code - 1) / 251 in
+    let both = guarded (eqb code (code_of value) && leb value 4096) size value e in
+    let parts = and_parts (eqb code (code_of value)) (leb value 4096) both.0 in
+    eqb-true code (code_of value) parts.0 ∙ ap code_of both.1
 
 -- two options of numbers that test as equal are equal
 pub same_option : (a b : Option ℕ) → option_eq eqb a b ≡ true → a ≡ b

@@ -1,5 +1,6 @@
 -- Numbers read where their bytes stand.
-use Rattle.std.proofs.Common.{◌≡◌, ◌≢◌, ℕ, zero, suc, ◌+◌, ◌^◌, ◌<◌, ◌∙◌, List, [], ◌++◌, length, get_or, set, refl, ap, sym, arith, length-append}
+use Rattle.std.proofs.Common.{◌≡◌, ◌≢◌, ℕ, zero, suc, ◌+◌, ◌-◌, ◌^◌, ◌<◌, ◌∙◌, List, [], ◌++◌, length, get_or, set, refl, ap, sym, arith, length-append, inl, inr}
+use Rattle.std.proofs.lemmas.Bool.{cases_lt}
 use Rattle.std.proofs.lemmas.List.{append-nil, get_or-append-add, get_or_append_left, get_or-set_other}
 use Rattle.byteorder.specs.Endian.{little_bytes, little_from}
 use Rattle.byteorder.specs.Numbers.{length-bytes_low_first, little_number-reads_back}
@@ -41,3 +42,15 @@ pub Stands-set : (bytes part : List ℕ) (at place v : ℕ) → place < at → S
 Stands-set bytes part at place v before stands m p h a =
     let other : p ≢ place = omega arith in
     get_or-set_other bytes place p v 0 other ∙ stands m p h a
+
+-- two parts that stand one behind the other stand as one
+pub Stands-join : (bytes xs ys : List ℕ) (at behind : ℕ) → at + length xs ≡ behind → Stands bytes at xs → Stands bytes behind ys → Stands bytes at (xs ++ ys)
+Stands-join bytes xs ys at behind e front back m p h a =
+    elim (cases_lt m (length xs)) [
+      | inl first ↦ front m p first a ∙ sym (get_or_append_left xs ys 0 m first)
+      | inr second ↦
+          let n = m - length xs in
+          let inside : n < length ys = omega (arith, length-append xs ys) in
+          let place : length xs + n ≡ m = omega arith in
+          back n p inside (omega arith) ∙ sym (get_or-append-add xs ys n 0) ∙ ap (λ k. get_or (xs ++ ys) k 0) place
+    ]

@@ -1,5 +1,5 @@
 -- The finding by the facts alone, for each kind of chunks.
-use Rattle.std.proofs.Common.{◌≡◌, ℕ, Bool, true, false, cond, List, Option, Some, None, refl}
+use Rattle.std.proofs.Common.{◌≡◌, ℕ, Bool, true, false, cond, List, Option, Some, None, refl, sym, ◌∙◌}
 use Rattle.std.specs.List.{find}
 use Rattle.std.specs.Option.{option_map}
 use Rattle.buftag.specs.declared.facts.Facts.{Facts}
@@ -49,3 +49,33 @@ of_unused t c g l w p bytes shape no_tag no_word no_pattern = rw (no_tag, no_wor
 
 pub verdict-Unused : (facts : Facts) (bytes : List ℕ) (shape : Shape) → facts.tag ≡ false → facts.word ≡ false → facts.pattern ≡ false → verdict Unused facts bytes shape ≡ None
 verdict-Unused facts bytes shape = of_unused facts.tag facts.code facts.guard facts.low facts.word facts.pattern bytes shape
+
+-- and nothing is wrong with a free chunk that has no finding
+quiet_unused : (t c g l w p : Bool) (bytes : List ℕ) (shape : Shape) → verdict Unused (facts_from t c g l w p) bytes shape ≡ None → (t ≡ false) × (w ≡ false) × (p ≡ false)
+quiet_unused t c g l w true bytes shape e = absurd (cc)
+quiet_unused t c g l true false bytes shape e = absurd (cc)
+quiet_unused true c g l false false bytes shape e = absurd (cc)
+quiet_unused false c g l false false bytes shape e = (refl, refl, refl)
+
+pub verdict-Unused-None : (facts : Facts) (bytes : List ℕ) (shape : Shape) → verdict Unused facts bytes shape ≡ None → (facts.tag ≡ false) × (facts.word ≡ false) × (facts.pattern ≡ false)
+verdict-Unused-None facts bytes shape = quiet_unused facts.tag facts.code facts.guard facts.low facts.word facts.pattern bytes shape
+
+-- nor with an allocated one
+quiet_class : (t c g l : Bool) → class_verdict t c g l ≡ None → (t ≡ false) × (c ≡ false) × (g ≡ false) × (l ≡ false)
+quiet_class true c g l e = absurd (cc)
+quiet_class false true g l e = absurd (cc)
+quiet_class false false true l e = absurd (cc)
+quiet_class false false false true e = absurd (cc)
+quiet_class false false false false e = (refl, refl, refl, refl)
+
+pub verdict-OfClass-None : (facts : Facts) (bytes : List ℕ) (shape : Shape) → verdict OfClass facts bytes shape ≡ None
+    → (facts.tag ≡ false) × (facts.code ≡ false) × (facts.guard ≡ false) × (facts.low ≡ false)
+verdict-OfClass-None facts bytes shape e = quiet_class facts.tag facts.code facts.guard facts.low (sym (verdict-OfClass facts bytes shape) ∙ e)
+
+quiet_declared : (t w : Bool) → declared_verdict t w ≡ None → (t ≡ false) × (w ≡ false)
+quiet_declared true w e = absurd (cc)
+quiet_declared false true e = absurd (cc)
+quiet_declared false false e = (refl, refl)
+
+pub verdict-Declared-None : (facts : Facts) (bytes : List ℕ) (shape : Shape) → verdict Declared facts bytes shape ≡ None → (facts.tag ≡ false) × (facts.word ≡ false)
+verdict-Declared-None facts bytes shape e = quiet_declared facts.tag facts.word (sym (verdict-Declared facts bytes shape) ∙ e)

@@ -13,10 +13,10 @@ use Rattle.buftag.specs.Written.{free_word}
 abbrev pub is_wrong : ℕ → Bool
 is_wrong word = not (eqb word free_word)
 
-length-content_words : (bytes : List ℕ) (shape : Shape) → length (content_words bytes shape) ≡ shape.content / 8
+pub length-content_words : (bytes : List ℕ) (shape : Shape) → length (content_words bytes shape) ≡ shape.content / 8
 length-content_words bytes shape = length-map-range_with_len (λ k. word_at bytes (8 * k)) 0 (shape.content / 8)
 
-get_or-content_words : (bytes : List ℕ) (shape : Shape) (k : ℕ) → k < shape.content / 8 → get_or (content_words bytes shape) k 0 ≡ word_at bytes (8 * k)
+pub get_or-content_words : (bytes : List ℕ) (shape : Shape) (k : ℕ) → k < shape.content / 8 → get_or (content_words bytes shape) k 0 ≡ word_at bytes (8 * k)
 get_or-content_words bytes shape k h = get_or-map-range_with_len (λ k. word_at bytes (8 * k)) 0 (shape.content / 8) k k 0 h (omega arith)
 
 is_wrong-content_words : (bytes : List ℕ) (shape : Shape) (k : ℕ) (b : Bool) → k < shape.content / 8 → is_wrong (word_at bytes (8 * k)) ≡ b → is_wrong (get_or (content_words bytes shape) k 0) ≡ b
