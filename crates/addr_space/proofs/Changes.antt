@@ -11,7 +11,7 @@ use Rattle.umem_base.specs.Pages.{page_size, IsPage}
 use Rattle.addr_space.specs.Mapped.{Mapped, Run}
 use Rattle.addr_space.specs.Spaces.{IsSpace, IsMapping, StandsBelow, Maps, Unmaps, HasMapped, byte_in, byte_at, run_of, runs_of, with_run}
 use Rattle.addr_space.specs.Places.{Holds, Meets, IsGap}
-use Rattle.addr_space.proofs.Lists.{AllPairs-insert}
+use Rattle.umem_base.proofs.Lists.{AllPairs-insert}
 use Rattle.addr_space.proofs.Order.{holds_one, pages_whole, run_index}
 use Rattle.addr_space.proofs.Bytes.{byte_in-holds, byte_in-not, byte_at-append, byte_at-none, byte_at-here, byte_at-some}
 

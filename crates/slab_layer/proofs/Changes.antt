@@ -10,7 +10,8 @@ use Rattle.std.proofs.lemmas.List.Elements.{All-set, Contains-get_or, Contains-a
 use Rattle.std.proofs.lemmas.List.Sorted.{IsPermutation-sym, IsPermutation-trans, IsPermutation-middle, IsPermutation-append_left, IsPermutation-append_right}
 use Rattle.slab_layer.specs.Listed.{Layer, Listed}
 use Rattle.slab_layer.specs.Layers.{AreSlabs, HasChunk, IsForeign, IsLowestRound, IsMissing, after_put, has_chunk, IsSlab, delisted, enlisted, rounds_of, with_number, with_round, without_number, without_round}
-use Rattle.slab_layer.proofs.Lists.{Contains-here, map_one, same_part-set}
+use Rattle.umem_base.proofs.Lists.{Contains-here}
+use Rattle.slab_layer.proofs.Lists.{map_one, same_part-set}
 use Rattle.slab_layer.proofs.Numbers.{All-from_rises, IsPermutation-with_number, without_number-absent, without_number-first}
 use Rattle.slab_layer.proofs.SlabLists.{IsSlab-with_number, Rises-list, has_chunk-true, has_chunk-false, has_one, rounds_rise}
 

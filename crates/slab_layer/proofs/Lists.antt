@@ -1,16 +1,7 @@
 -- Lists: what stands in one, filters that keep all or nothing or leave one out, and one item more or changed.
-use Rattle.std.proofs.Common.{◌≡◌, ◌≢◌, ℕ, zero, suc, ◌+◌, ◌-◌, ◌<◌, ◌≤◌, Bool, true, false, List, [], ◌∷◌, ◌++◌, length, get_or, set, map, ltb, refl, sym, ap, ◌∙◌, arith, inl, inr}
-use Rattle.std.specs.Prelude.{All, AllPairs, Contains, filter, insert, remove}
-use Rattle.std.proofs.lemmas.Bool.{cases_order, lt-ltb, le-ltb}
-use Rattle.std.proofs.lemmas.List.Edits.{length-insert, get_or-insert_below, get_or-insert_at, get_or-insert_above}
-
--- ---- what stands in a list
-
-pub Contains-here : {X : Type 0} (x : X) (xs : List X) → Contains (x ∷ xs) x
-Contains-here x xs = (0, omega arith, refl)
-
-pub Contains-there : {X : Type 0} (x y : X) (xs : List X) → Contains xs y → Contains (x ∷ xs) y
-Contains-there x y xs h = (suc h.0, omega (arith, h.1), h.2)
+use Rattle.std.proofs.Common.{◌≡◌, ◌≢◌, ℕ, zero, suc, ◌<◌, ◌≤◌, Bool, true, false, List, [], ◌∷◌, ◌++◌, length, get_or, set, map, ltb, refl, sym, ap, ◌∙◌, arith}
+use Rattle.std.specs.Prelude.{All, filter, insert, remove}
+use Rattle.std.proofs.lemmas.Bool.{lt-ltb, le-ltb}
 
 -- ---- filters
 
@@ -48,26 +39,6 @@ insert-filters {X} n (x ∷ xs) zero y within below above =
 insert-filters {X} n (x ∷ xs) (suc i) y within below above =
     let here = below 0 x (omega arith) in
     rw (lt-ltb (n x) (n y) here, le-ltb (n y) (n x) (omega arith)) (ap (λ (ys : List X). x ∷ ys) (insert-filters n xs i y (omega arith) (λ k d lt. below (suc k) d (omega arith)) (λ k d le lt. above (suc k) d (omega arith) (omega arith))))
-
-pub AllPairs-insert : {X : Type 0} (R : X → X → Type 0) (xs : List X) (n : ℕ) (y : X) → n ≤ length xs → AllPairs R xs → ((k : ℕ) (d : X) → k < n → R (get_or xs k d) y) → ((k : ℕ) (d : X) → n ≤ k → k < length xs → R y (get_or xs k d)) → AllPairs R (insert xs n y)
-AllPairs-insert R xs n y within pairs below above i j d ij jl =
-    let longer = length-insert xs n y within in
-    elim (cases_order i n) [
-      | inl at ↦
-          let up : j - 1 + 1 ≡ j = omega arith in
-          rw (at, get_or-insert_at xs n y d within, ← up, get_or-insert_above xs n y d (j - 1) (omega arith) within) (above (j - 1) d (omega arith) (omega arith))
-      | inr (inl low) ↦ elim (cases_order j n) [
-        | inl at ↦ rw (at, get_or-insert_at xs n y d within, get_or-insert_below xs n y d i low within) (below i d low)
-        | inr (inl both) ↦ rw (get_or-insert_below xs n y d i low within, get_or-insert_below xs n y d j both within) (pairs i j d ij (omega arith))
-        | inr (inr over) ↦
-            let up : j - 1 + 1 ≡ j = omega arith in
-            rw (get_or-insert_below xs n y d i low within, ← up, get_or-insert_above xs n y d (j - 1) (omega arith) within) (pairs i (j - 1) d (omega arith) (omega arith))
-      ]
-      | inr (inr high) ↦
-          let up : j - 1 + 1 ≡ j = omega arith in
-          let up' : i - 1 + 1 ≡ i = omega arith in
-          rw (← up, ← up', get_or-insert_above xs n y d (i - 1) (omega arith) within, get_or-insert_above xs n y d (j - 1) (omega arith) within) (pairs (i - 1) (j - 1) d (omega arith) (omega arith))
-    ]
 
 -- ---- one item changed
 

@@ -13,7 +13,8 @@ use Rattle.std.proofs.lemmas.List.FromFn.{get_or-range_with_len, length-range_wi
 use Rattle.std.proofs.lemmas.List.Kept.{AllPairs-from_increasing}
 use Rattle.std.proofs.lemmas.List.Sorted.{searched, IsPermutation-refl, IsPermutation-cons, IsPermutation-sym, IsPermutation-trans, IsPermutation-middle}
 use Rattle.slab_layer.specs.Layers.{AreConsecutive, GoesTo, with_number, without_number}
-use Rattle.slab_layer.proofs.Lists.{Contains-here, Contains-there, filter_all, filter_none, insert-filters}
+use Rattle.umem_base.proofs.Lists.{Contains-here, Contains-there}
+use Rattle.slab_layer.proofs.Lists.{filter_all, filter_none, insert-filters}
 
 -- the numbers rise, and none is below `low`
 abbrev pub Rises : ℕ → List ℕ → Type 0

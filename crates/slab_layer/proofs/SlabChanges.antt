@@ -10,7 +10,8 @@ use Rattle.std.proofs.lemmas.List.Quantifiers.{all_pairs_remove}
 use Rattle.std.proofs.lemmas.List.Sorted.{IsPermutation-refl, IsPermutation-trans, IsPermutation-append_comm, IsPermutation-append_left, IsPermutation-append_right}
 use Rattle.slab_layer.specs.Listed.{Listed}
 use Rattle.slab_layer.specs.Layers.{AreSlabs, IsSlab, clash, rounds_of, with_slab, without_base, without_clashes}
-use Rattle.slab_layer.proofs.Lists.{AllPairs-insert, filter_but_one, insert-filters}
+use Rattle.umem_base.proofs.Lists.{AllPairs-insert}
+use Rattle.slab_layer.proofs.Lists.{filter_but_one, insert-filters}
 
 exchange : (xs ys zs : List ℕ) → IsPermutation (xs ++ (ys ++ zs)) (ys ++ (xs ++ zs))
 exchange xs ys zs =

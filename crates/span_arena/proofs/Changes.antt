@@ -1,22 +1,16 @@
 -- What a span put in its place or taken away does to the list of spans.
-use Rattle.std.proofs.Common.{◌≡◌, ◌≢◌, ℕ, zero, suc, ◌+◌, ◌-◌, ◌<◌, ◌≤◌, ◌⊎◌, List, [], ◌∷◌, length, get_or, take, drop, refl, sym, ap, ◌∙◌, arith, inl, inr}
-use Rattle.std.specs.Prelude.{All, AllPairs, Contains, insert, remove}
-use Rattle.std.proofs.lemmas.Bool.{cases_lt, cases_eq, cases_order, lt-ltb, le-ltb, eq-eqb, ne_eqb}
+use Rattle.std.proofs.Common.{◌≡◌, ◌≢◌, ℕ, zero, suc, ◌<◌, ◌≤◌, ◌⊎◌, List, [], ◌∷◌, length, get_or, take, drop, refl, sym, ap, ◌∙◌, arith, inl, inr}
+use Rattle.std.specs.Prelude.{All, Contains, insert, remove}
+use Rattle.std.proofs.lemmas.Bool.{cases_lt, cases_eq, lt-ltb, le-ltb, eq-eqb, ne_eqb}
 use Rattle.std.proofs.lemmas.List.{get_or_default}
-use Rattle.std.proofs.lemmas.List.Edits.{length-insert, get_or-insert_below, get_or-insert_at, get_or-insert_above}
 use Rattle.std.proofs.lemmas.List.Elements.{All-cons, All-append, All-take, All-drop}
 use Rattle.std.proofs.lemmas.List.Quantifiers.{all_pairs_remove}
+use Rattle.umem_base.proofs.Lists.{AllPairs-insert, Contains-here, Contains-there}
 use Rattle.span_arena.specs.declared.span.Span.{Span}
 use Rattle.span_arena.specs.Spans.{Area, IsSound, IsSpanWithin, StandsBelow, Gains, Loses, area_end, with_span, without_base}
 use Rattle.span_arena.specs.Gaps.{IsGap}
 
 -- ---- membership
-
-Contains-here : {X : Type 0} (x : X) (xs : List X) → Contains (x ∷ xs) x
-Contains-here x xs = (0, omega arith, refl)
-
-Contains-there : {X : Type 0} (x y : X) (xs : List X) → Contains xs y → Contains (x ∷ xs) y
-Contains-there x y xs h = (suc h.0, omega (arith, h.1), h.2)
 
 Contains-nil : {X : Type 0} {P : Type 0} (y : X) → Contains [] y → P
 Contains-nil y h = absurd (omega (arith, h.1))
@@ -67,26 +61,6 @@ Gains-with_span (x ∷ xs) new =
     elim (cases_lt new.base x.base) [
       | inl lt ↦ rw (with_span-before x xs new lt) (Gains-front new (x ∷ xs))
       | inr le ↦ rw (with_span-after x xs new le) (Gains-cons x new xs (with_span xs new) (Gains-with_span xs new))
-    ]
-
-AllPairs-insert : {X : Type 0} (R : X → X → Type 0) (xs : List X) (n : ℕ) (y : X) → n ≤ length xs → AllPairs R xs → ((k : ℕ) (d : X) → k < n → R (get_or xs k d) y) → ((k : ℕ) (d : X) → n ≤ k → k < length xs → R y (get_or xs k d)) → AllPairs R (insert xs n y)
-AllPairs-insert R xs n y within pairs below above i j d ij jl =
-    let longer = length-insert xs n y within in
-    elim (cases_order i n) [
-      | inl at ↦
-          let up : j - 1 + 1 ≡ j = omega arith in
-          rw (at, get_or-insert_at xs n y d within, ← up, get_or-insert_above xs n y d (j - 1) (omega arith) within) (above (j - 1) d (omega arith) (omega arith))
-      | inr (inl low) ↦ elim (cases_order j n) [
-        | inl at ↦ rw (at, get_or-insert_at xs n y d within, get_or-insert_below xs n y d i low within) (below i d low)
-        | inr (inl both) ↦ rw (get_or-insert_below xs n y d i low within, get_or-insert_below xs n y d j both within) (pairs i j d ij (omega arith))
-        | inr (inr over) ↦
-            let up : j - 1 + 1 ≡ j = omega arith in
-            rw (get_or-insert_below xs n y d i low within, ← up, get_or-insert_above xs n y d (j - 1) (omega arith) within) (pairs i (j - 1) d (omega arith) (omega arith))
-      ]
-      | inr (inr high) ↦
-          let up : j - 1 + 1 ≡ j = omega arith in
-          let up' : i - 1 + 1 ≡ i = omega arith in
-          rw (← up, ← up', get_or-insert_above xs n y d (i - 1) (omega arith) within, get_or-insert_above xs n y d (j - 1) (omega arith) within) (pairs (i - 1) (j - 1) d (omega arith) (omega arith))
     ]
 
 pub IsSound-with_span : (a : Area) (pages index base : ℕ) → IsSound a → 1 ≤ pages → IsGap a pages index base → (new : List Span) → new ≡ insert a.spans index (record { base = base; pages = pages }) → IsSound (record { base = a.base; pages = a.pages; spans = new })

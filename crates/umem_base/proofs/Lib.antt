@@ -4,3 +4,4 @@ mod FileLists
 mod Known
 mod Moves
 mod OpenedFiles
+pub mod Lists
