@@ -31,7 +31,7 @@ impl Shape {
     {
         Shape {
             size,
-            content: (size + 7) / 8 * 8,
+            content: size.next_multiple_of(8),
             bufctl,
             class: None,
         }

@@ -1,7 +1,6 @@
 use super::*;
 use magazine::{CpuCache, Need, Room};
 use slab_layer::{Round, Slabs, rounds_from};
-use std::process::Abort;
 use std::test::Fail;
 
 /// The rounds with the numbers from `first` on stand in the list, so many of them.
