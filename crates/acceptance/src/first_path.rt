@@ -15,7 +15,7 @@ const USAGE: &[u8] = b"usage: umem run SCRIPT [--core FILE] [--debug LIST] [--lo
     usage: umem mdb CORE\n\
     usage: umem make --seed N --ops N [--debug LIST] [--logging LIST]\n";
 
-const RUN: [&str; 2] = ["run", "first.umem"];
+const RUN: [&[u8]; 2] = [b"run", b"first.umem"];
 
 // The first script, an arena that is full, frees of a wrong size and of nothing, and no call at all.
 #[test]
@@ -44,12 +44,20 @@ fn runs_scripts(rt: HostRuntime) -> Result<(), Fail> {
             end 8\n",
         ),
         (
+            b"# comments, blanks, phases and a stack\n\numem 1  cpus 2 threads 1\nphase\n\
+            0 alloc $1 24 @ 1f,2a\n phase\n\t# more\n0 free $1 24\nphase",
+            b"transcript 1 cpus 2 threads 1 guards off\n\
+            0 0 alloc $1 24 -> ok 100000\n\
+            1 0 free $1 24 -> ok\n\
+            end 2\n",
+        ),
+        (
             b"umem 1 cpus 1 threads 1\nphase\n",
             b"transcript 1 cpus 1 threads 1 guards off\nend 0\n",
         ),
     ] {
         let outcome = call(&rt, rt.alloc(), &RUN, script, NOTHING)?;
-        assert_eq!(rt; outcome.status, Status::Done);
+        assert_eq!(rt; outcome.number, Status::Done.code());
         assert_eq!(rt; outcome.out.bytes(), transcript);
         assert_eq!(rt; outcome.err.bytes(), b"".as_slice());
     }
@@ -63,27 +71,47 @@ fn refuses_words_files_and_scripts(rt: HostRuntime) -> Result<(), Fail> {
             RUN.as_slice(),
             b"".as_slice(),
             Status::BadScript,
-            b"umem: first.umem: no script\n".as_slice(),
+            b"umem: first.umem: line 1: header\n".as_slice(),
         ),
         (
             &RUN,
-            b"umem 1 cpus 1 threads 1\nphase\n0 alloc $1 24",
+            b"umem 1 cpus 1 threads 1\nphase\n0 aloc $1 24\n",
+            Status::BadScript,
+            b"umem: first.umem: line 3: word\n",
+        ),
+        (
+            &RUN,
+            b"umem 1 cpus 1 threads 2\nphase\n1 alloc $1 24\n",
             Status::BadScript,
             b"umem: first.umem: no script\n",
         ),
         (
-            &["run", "other"],
+            &[b"run", b"other"],
             FIRST,
             Status::NoFile,
             b"umem: other: no such file\n",
         ),
         (&[], FIRST, Status::Usage, USAGE),
-        (&["run"], FIRST, Status::Usage, USAGE),
-        (&["ru", "first.umem"], FIRST, Status::Usage, USAGE),
-        (&["run", "first.umem", "more"], FIRST, Status::Usage, USAGE),
+        (&[b"run"], FIRST, Status::Usage, USAGE),
+        (&[b"ru", b"first.umem"], FIRST, Status::Usage, USAGE),
+        (
+            &[b"run", b"first.umem", b"more"],
+            FIRST,
+            Status::Usage,
+            USAGE,
+        ),
+        (&[b"\xff"], FIRST, Status::Usage, USAGE),
+        (&[b"\xff", b"first.umem"], FIRST, Status::Usage, USAGE),
+        (&[b"run", b"first\xff.umem"], FIRST, Status::Usage, USAGE),
+        (
+            &[b"run", b"first.umem", b"\xc3"],
+            FIRST,
+            Status::Usage,
+            USAGE,
+        ),
     ] {
         let outcome = call(&rt, rt.alloc(), words, script, NOTHING)?;
-        assert_eq!(rt; outcome.status, status);
+        assert_eq!(rt; outcome.number, status.code());
         assert_eq!(rt; outcome.out.bytes(), b"".as_slice());
         assert_eq!(rt; outcome.err.bytes(), line);
     }
@@ -109,7 +137,7 @@ fn ends_at_each_fault(rt: HostRuntime) -> Result<(), Fail> {
     ] {
         let failing = Failing { files, out, err };
         let outcome = call(&rt, rt.alloc(), &RUN, FIRST, failing)?;
-        assert_eq!(rt; outcome.status, status);
+        assert_eq!(rt; outcome.number, status.code());
         assert_eq!(rt; outcome.out.bytes(), &FIRST_TRANSCRIPT[..taken]);
         assert_eq!(rt; outcome.err.bytes(), &line[..said]);
     }
@@ -126,7 +154,7 @@ fn ends_at_each_write(rt: HostRuntime) -> Result<(), Fail> {
         };
         let outcome = call(&rt, rt.alloc(), &RUN, FIRST, failing)?;
         let taken = 16 * write as usize;
-        assert_eq!(rt; outcome.status, Status::WriteFault);
+        assert_eq!(rt; outcome.number, Status::WriteFault.code());
         assert_eq!(rt; outcome.out.bytes(), &FIRST_TRANSCRIPT[..taken]);
         assert_eq!(rt; outcome.err.bytes(), b"".as_slice());
     }

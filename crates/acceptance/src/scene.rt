@@ -4,8 +4,8 @@ use std::alloc::{AllocError, Global};
 use std::sync::Wait;
 use std::test::Fail;
 use std::thread::Threads;
-use umem_base::{MemFolder, MemSink, MemSource, NoGate, Text};
-use umem_cli::{Status, umem};
+use umem_base::{MemFolder, MemSink, MemSource, NoGate, NoMemory, Text};
+use umem_cli::{command_words, umem};
 
 /// No call has this number.
 pub const NEVER: u64 = u64::MAX;
@@ -29,10 +29,10 @@ pub const NOTHING: Failing = Failing {
     err: NEVER,
 };
 
-/// What a call ended with, and what the streams took.
+/// The number that a call ended with, and what the streams took.
 #[derive(Drop)]
 pub struct Outcome {
-    pub status: Status,
+    pub number: u8,
     pub out: MemSink,
     pub err: MemSink,
 }
@@ -41,21 +41,41 @@ pub struct Outcome {
 pub fn call<R: Threads + Wait + Sync>(
     rt: &R,
     alloc: Global,
-    words: &[&str],
+    words: &[&[u8]],
     script: &[u8],
     failing: Failing,
 ) -> Result<Outcome, Fail> {
+    call_with(rt, alloc, Ok(texts(alloc, words)?), script, failing)
+}
+
+/// The words as a system gives them.
+pub fn texts(alloc: Global, words: &[&[u8]]) -> Result<Vec<Text>, NoMemory> {
     let mut given = Vec::new(alloc);
     for word in words {
-        given.push(String::from_str(alloc, word)?)?;
+        given.push(Text::from_slice(alloc, word)?)?;
     }
+    Ok(given)
+}
+
+/// Calls the command with words that were taken from the system, or were not.
+pub fn call_with<R: Threads + Wait + Sync>(
+    rt: &R,
+    alloc: Global,
+    words: Result<Vec<Text>, NoMemory>,
+    script: &[u8],
+    failing: Failing,
+) -> Result<Outcome, Fail> {
     let mut files = MemFolder::new(alloc, vec![in alloc; failing.files]?);
     files.put(&Text::from_slice(alloc, b"first.umem")?, script, 0)?;
     let mut input = MemSource::new(Vec::new(alloc), Vec::new(alloc));
     let mut out = MemSink::new(alloc, PIECE, ROOM, vec![in alloc; failing.out]?)?;
     let mut err = MemSink::new(alloc, PIECE, ROOM, vec![in alloc; failing.err]?)?;
-    let status = umem(
-        rt, alloc, &given, &mut input, &mut out, &mut err, &mut files, &NoGate,
-    );
-    Ok(Outcome { status, out, err })
+    let status = match command_words(alloc, words, &mut err) {
+        Ok(words) => umem(
+            rt, alloc, &words, &mut input, &mut out, &mut err, &mut files, &NoGate,
+        ),
+        Err(status) => status,
+    };
+    let number = status.code();
+    Ok(Outcome { number, out, err })
 }

@@ -1,6 +1,2 @@
-pub mod Order
-pub mod Bytes
-pub mod Parts
-pub mod Changes
-pub mod Sound
-pub mod Loans
+pub mod SpaceLemmas
+pub mod SpaceLoanLemmas

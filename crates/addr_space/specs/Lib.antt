@@ -1,5 +1,4 @@
-pub mod Mapped
-pub mod Spaces
-pub mod Places
-pub mod Lending
-pub mod SpaceLending
+pub mod MappedRun
+pub mod MappedRunLoan
+pub mod Space
+pub mod SpaceLoan

@@ -2,7 +2,7 @@
 #![tactic(auto)]
 
 mod fault;
-mod mapping;
+mod mapped_run;
 mod place;
 mod space;
 

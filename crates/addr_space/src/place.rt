@@ -1,10 +1,10 @@
 ghost use Rattle.std.specs.Prelude.{◌≡◌, ℕ, ◌+◌, ◌*◌, ◌<◌, ◌≤◌, ◌^◌, length, All, MatchOption, slice_index_or};
 ghost use Rattle.std.specs.List.{HoldsAt};
-ghost use Rattle.addr_space.specs.Mapped.{Mapped};
-ghost use Rattle.addr_space.specs.Spaces.{IsSpace};
-ghost use Rattle.addr_space.specs.Places.{Holds, HoldsRange, Meets, IsGap};
+ghost use Rattle.umem_base.specs.Ordered.{SplitsBy};
+ghost use Rattle.addr_space.specs.MappedRun.{Holds, HoldsRange, Meets, bytes_end};
+ghost use Rattle.addr_space.specs.Space.{IsSpace};
 
-use crate::mapping::Mapping;
+use crate::mapped_run::MappedRun;
 
 /// A range of bytes: the run that holds it, and the offset of its first byte there.
 #[derive(Clone, Copy)]
@@ -14,19 +14,17 @@ pub struct Place {
 }
 
 /// How many of the runs begin at the address or below.
-fn count_from_below(runs: &[Mapping], address: u64) -> usize
+fn count_from_below(runs: &[MappedRun], address: u64) -> usize
     requires { IsSpace runs.now }
-    ensures within { result ≤ length runs.now }
-    ensures below { (k : ℕ) (d : Mapped) → k < result → (slice_index_or runs.now k d).base ≤ address }
-    ensures above { (k : ℕ) (d : Mapped) → result ≤ k → k < length runs.now → address < (slice_index_or runs.now k d).base }
+    ensures { SplitsBy (λ run. run.base ≤ address) (λ run. address < run.base) runs.now result }
 {
     runs.partition_point(|run| run.base() <= address)
 }
 
 /// The run that the address lies in.
-pub fn index_of(runs: &[Mapping], address: u64) -> Option<usize>
+pub fn index_of(runs: &[MappedRun], address: u64) -> Option<usize>
     requires { IsSpace runs.now }
-    ensures { MatchOption result (All (λ m. ¬ Holds address m) runs.now)
+    ensures { MatchOption result (All (λ run. ¬ Holds address run) runs.now)
         (λ i. (i < length runs.now) × HoldsAt (Holds address) runs.now i) }
 {
     let count = count_from_below(runs, address);
@@ -40,10 +38,10 @@ pub fn index_of(runs: &[Mapping], address: u64) -> Option<usize>
 }
 
 /// The place of a range that is not empty and lies inside of one run.
-pub fn place_of(runs: &[Mapping], address: u64, count: usize) -> Option<Place>
+pub fn place_of(runs: &[MappedRun], address: u64, count: usize) -> Option<Place>
     requires { IsSpace runs.now }
     ensures { MatchOption result
-        (0 < count → All (λ m. (m.base ≤ address) → (address + count ≤ m.base + length m.bytes) → ⊥) runs.now)
+        (0 < count → All (λ run. (run.base ≤ address) → (address + count ≤ bytes_end run) → ⊥) runs.now)
         (λ p. (0 < count) × (p.index < length runs.now) × HoldsAt (HoldsRange address p.from count) runs.now p.index) }
 {
     if count == 0 {
@@ -59,12 +57,12 @@ pub fn place_of(runs: &[Mapping], address: u64, count: usize) -> Option<Place>
 }
 
 /// How many runs stand below a range that meets none of them.
-pub fn gap_of(runs: &[Mapping], from: u64, to: u64) -> Option<usize>
+pub fn gap_of(runs: &[MappedRun], from: u64, to: u64) -> Option<usize>
     requires space { IsSpace runs.now }
     requires some { from < to }
     ensures { MatchOption result
         ((k : ℕ) × (k < length runs.now) × HoldsAt (Meets from to) runs.now k)
-        (IsGap runs.now from to) }
+        (SplitsBy (λ run. bytes_end run ≤ from) (λ run. to ≤ run.base) runs.now) }
 {
     let index = count_from_below(runs, from);
     if index > 0 {

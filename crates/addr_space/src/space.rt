@@ -1,37 +1,34 @@
 ghost use Rattle.std.specs.Prelude.{◌≡◌, ℕ, ◌+◌, ◌*◌, ◌%◌, ◌<◌, ◌≤◌, ◌^◌, ◌↔◌, List, [], None, length, MatchOption, MatchResult, MatchBool, IfSome, IfNone, OnOk, OnErr, IfOk, Contains, IsTrue, slice_index, slice_index_or};
+ghost use Rattle.std.specs.Bool.{OnTrue};
 ghost use Rattle.std.specs.List.{HoldsAt, slice_range};
 ghost use Rattle.std.specs.Int as int;
 ghost use Rattle.std.specs.Int.{to_le_bytes};
 ghost use Rattle.std.specs.Borrow.{sem};
-ghost use Rattle.umem_base.specs.Pages.{page_size, IsPage};
-ghost use Rattle.addr_space.specs.Mapped.{Mapped};
-ghost use Rattle.addr_space.specs.Spaces.{byte_at, runs_of, Reads, Writes, Maps, Unmaps, HasMapped, IsMapped, HasUnmapped, IsInRun, IsSound};
-ghost use Rattle.addr_space.specs.Places.{Holds, HoldsRange};
-ghost use Rattle.addr_space.specs.SpaceLending.{LendsPartAt, LendsBytesIf, LendsBytes, with_bytes};
+ghost use Rattle.umem_base.specs.declared.pages.TheConstants.{PAGE_BYTES};
+ghost use Rattle.umem_base.specs.Pages.{IsPage};
+ghost use Rattle.addr_space.specs.MappedRun.{Holds, HoldsRange};
+ghost use Rattle.addr_space.specs.Space.{byte_at, runs_of, byte_of_word, HasBytes, AreBytesAt, Writes, Maps, Unmaps, HasMapped, IsMappedRange, HasUnmapped, IsInRun, IsSound, with_bytes};
+ghost use Rattle.addr_space.specs.SpaceLoan.{LendsPartAt, LendsBytesIf, LendsBytes};
 
 use crate::fault::{MapFault, Unmapped};
-use crate::mapping::Mapping;
+use crate::mapped_run::MappedRun;
 use crate::place::{Place, gap_of, index_of, place_of};
 use std::alloc::Global;
 use std::marker::Model;
-
-/// The bytes of a page.
-const PAGE_BYTES: u64 = 4096;
+use umem_base::{PAGE_BYTES, fill_words};
 
 /// Runs of pages with their bytes. Contracts see the byte at each mapped address, and the runs by rising
 /// base.
 #[derive(Debug, Drop)]
 pub struct Space {
     alloc: Global,
-    runs: Vec<Mapping>,
+    runs: Vec<MappedRun>,
 }
 
 impl Model for Space {
-    ghost use Rattle.std.specs.Prelude.{List};
-    ghost use Rattle.addr_space.specs.Mapped.{Mapped};
-    ghost use Rattle.addr_space.specs.Spaces.{IsSpace};
+    ghost use Rattle.addr_space.specs.Space.{Space, IsSpace};
 
-    ghost Value = { List Mapped };
+    ghost Value = { Space };
 
     ghost view = { λ s. s.runs.items };
 
@@ -55,9 +52,9 @@ impl Space {
     pub fn map(&mut self, base: u64, pages: u64) -> Result<(), MapFault>
         requires page { IsPage base }
         requires some { 1 ≤ pages }
-        requires below { base + page_size * pages ≤ 2 ^ 32 }
+        requires below { base + PAGE_BYTES * pages ≤ 2 ^ 32 }
         ensures ok { OnOk result (Maps self.old self.new (record { base = base; pages = pages })) }
-        ensures overlap { (result ≡ Err MapFault.Overlap) ↔ HasMapped self.old base (page_size * pages) }
+        ensures overlap { (result ≡ Err MapFault.Overlap) ↔ HasMapped self.old base (PAGE_BYTES * pages) }
         ensures err { OnErr result (self.new ≡ self.old) }
         ensures sound { IsSound self.new }
     {
@@ -65,8 +62,8 @@ impl Space {
         let Some(index) = gap_of(&self.runs, base, base + size) else {
             return Err(MapFault::Overlap);
         };
-        let mapping = Mapping::zeros(self.alloc, base, size as usize)?;
-        self.runs.insert(index, mapping)?;
+        let run = MappedRun::zeros(self.alloc, base, size as usize)?;
+        self.runs.insert(index, run)?;
         Ok(())
     }
 
@@ -82,22 +79,23 @@ impl Space {
     }
 
     fn place_of(&self, at: u64, count: usize) -> Option<Place>
-        ensures { MatchOption result
+        ensures found { MatchOption result
             (0 < count → IsInRun (runs_of self.now) at count → ⊥)
             (λ p. (0 < count) × (p.index < length self.now) × HoldsAt (HoldsRange at p.from count) self.now p.index) }
+        ensures sound { IsSound self.now }
     {
         place_of(&self.runs, at, count)
     }
 
     fn part_mut(&mut self, index: usize, from: usize, count: usize) -> &mut [u8]
         requires within { index < length self.old }
-        requires part { HoldsAt (λ m. from + count ≤ length m.bytes) self.old index }
+        requires part { HoldsAt (λ run. from + count ≤ length run.bytes) self.old index }
         ensures* writes_back { sem 𝓛 (LendsPartAt self.entry index from result) }
-        ensures value { HoldsAt (λ m. result.now ≡ slice_range m.bytes from (from + count)) self.old index }
+        ensures value { HoldsAt (λ run. result.now ≡ slice_range run.bytes from (from + count)) self.old index }
         ensures len { length result.now ≡ count }
     {
-        let mapping = &mut self.runs[index];
-        mapping.part_mut(from, count)
+        let run = &mut self.runs[index];
+        run.part_mut(from, count)
     }
 
     /// The byte at an address and an offset from it.
@@ -105,6 +103,7 @@ impl Space {
         ensures byte { result ≡ byte_at self.now (at + offset) }
         ensures below { IfSome result (λ _. at + offset < 2 ^ 32) }
     {
+        // A read of a field shows a proof what every space keeps; so do the lines like this one below.
         let _ = &self.runs;
         let address = at.checked_add(offset as u64)?;
         let index = index_of(&self.runs, address)?;
@@ -113,7 +112,8 @@ impl Space {
     }
 
     fn is_mapped(&self, at: u64, count: usize) -> bool
-        ensures { MatchBool result (IsMapped self.now at count × (at + count ≤ 2 ^ 64)) (HasUnmapped self.now at count) }
+        ensures cases { MatchBool result (IsMappedRange self.now at count) (HasUnmapped self.now at count) }
+        ensures fits { OnTrue result (at + count ≤ 2 ^ 64) }
     {
         for offset in 0..count {
             if self.byte_from(at, offset).is_none() {
@@ -124,7 +124,7 @@ impl Space {
     }
 
     fn store_each(&mut self, at: u64, bytes: &[u8])
-        requires mapped { IsMapped self.old at (length bytes.now) }
+        requires mapped { IsMappedRange self.old at (length bytes.now) }
         requires fits { at + length bytes.now ≤ 2 ^ 64 }
         ensures { Writes self.old self.new at (length bytes.now) (λ k. slice_index bytes.now k) }
     {
@@ -134,7 +134,7 @@ impl Space {
     }
 
     fn put(&mut self, at: u64, byte: u8)
-        requires { IsMapped self.old at 1 }
+        requires { IsMappedRange self.old at 1 }
         ensures { Writes self.old self.new at 1 (λ _. byte) }
     {
         let _ = &self.runs;
@@ -147,7 +147,7 @@ impl Space {
     /// The word at an address, its lowest byte first.
     pub fn load_word(&self, at: u64) -> Result<u64, Unmapped>
         ensures { MatchResult result
-            (λ word. Reads self.now at 8 (λ k. slice_index (to_le_bytes int.w64 word) k))
+            (λ word. HasBytes self.now at 8 (byte_of_word word))
             (λ _. HasUnmapped self.now at 8) }
     {
         if let Some(part) = self.bytes_of(at, 8) {
@@ -164,9 +164,11 @@ impl Space {
 
     /// Writes the word, its lowest byte first. On a refusal nothing changed.
     pub fn store_word(&mut self, at: u64, value: u64) -> Result<(), Unmapped>
-        ensures stored { OnOk result (Writes self.old self.new at 8 (λ k. slice_index (to_le_bytes int.w64 value) k)) }
+        ensures stored { OnOk result (Writes self.old self.new at 8 (byte_of_word value)) }
+        ensures mapped { OnOk result (IsMappedRange self.old at 8) }
         ensures refused { OnErr result (HasUnmapped self.old at 8) }
         ensures err { OnErr result (self.new ≡ self.old) }
+        ensures sound { IsSound self.new }
     {
         self.store_bytes(at, &value.to_le_bytes())
     }
@@ -174,8 +176,10 @@ impl Space {
     /// Writes the byte. On a refusal nothing changed.
     pub fn store_byte(&mut self, at: u64, value: u8) -> Result<(), Unmapped>
         ensures stored { OnOk result (Writes self.old self.new at 1 (λ _. value)) }
+        ensures mapped { OnOk result (IsMappedRange self.old at 1) }
         ensures refused { OnErr result (HasUnmapped self.old at 1) }
         ensures err { OnErr result (self.new ≡ self.old) }
+        ensures sound { IsSound self.new }
     {
         self.store_bytes(at, &[value])
     }
@@ -183,8 +187,10 @@ impl Space {
     /// Writes the bytes, also over the end of a run into the next one. On a refusal nothing changed.
     pub fn store_bytes(&mut self, at: u64, bytes: &[u8]) -> Result<(), Unmapped>
         ensures stored { OnOk result (Writes self.old self.new at (length bytes.now) (λ k. slice_index bytes.now k)) }
+        ensures mapped { OnOk result (IsMappedRange self.old at (length bytes.now)) }
         ensures refused { OnErr result (HasUnmapped self.old at (length bytes.now)) }
         ensures err { OnErr result (self.new ≡ self.old) }
+        ensures sound { IsSound self.new }
     {
         let _ = &self.runs;
         if let Some(place) = self.place_of(at, bytes.len()) {
@@ -202,7 +208,8 @@ impl Space {
     /// Writes one word again and again, its lowest byte first.
     pub fn fill(&mut self, at: u64, words: u64, value: u64)
         requires { IsInRun (runs_of self.old) at (8 * words) }
-        ensures { Writes self.old self.new at (8 * words) (λ k. slice_index (to_le_bytes int.w64 value) (k % 8)) }
+        ensures filled { Writes self.old self.new at (8 * words) (λ k. byte_of_word value (k % 8)) }
+        ensures sound { IsSound self.new }
     {
         let _ = &self.runs;
         let count = (8 * words) as usize;
@@ -216,7 +223,7 @@ impl Space {
     pub fn bytes_of(&self, at: u64, count: usize) -> Option<&[u8]>
         ensures some { IfSome result (λ s. (0 < count) × IsInRun (runs_of self.now) at count) }
         ensures none { IfNone result (0 < count → IsInRun (runs_of self.now) at count → ⊥) }
-        ensures bytes { IfSome result (λ s. (length s.now ≡ count) × Reads self.now at count (λ k. slice_index s.now k)) }
+        ensures bytes { IfSome result (λ s. AreBytesAt self.now at count s.now) }
     {
         let place = self.place_of(at, count)?;
         let bytes = self.runs[place.index].bytes();
@@ -240,9 +247,12 @@ impl Space {
         ensures* writes_back { sem 𝓛 (LendsBytesIf self.entry at result) }
         ensures writes { 0 < count → IsInRun (runs_of self.old) at count → (bytes : List ℕ) → length bytes ≡ count →
             Writes self.old (with_bytes self.old at bytes) at count (λ k. slice_index bytes k) }
+        ensures sound { IfSome result (λ _. (bytes : List ℕ) → IsSound (with_bytes self.old at bytes)) }
+        ensures was_sound { IsSound self.old }
+
         ensures some { IfSome result (λ _. (0 < count) × IsInRun (runs_of self.old) at count) }
         ensures none { IfNone result (0 < count → IsInRun (runs_of self.old) at count → ⊥) }
-        ensures bytes { IfSome result (λ s. (length s.now ≡ count) × Reads self.old at count (λ k. slice_index s.now k)) }
+        ensures bytes { IfSome result (λ s. AreBytesAt self.old at count s.now) }
     {
         match self.place_of(at, count) {
             Some(place) => Some(self.bytes_mut_at(place, at, count)),
@@ -260,8 +270,9 @@ impl Space {
         ensures* writes_back { sem 𝓛 (LendsBytes self.entry at result) }
         ensures writes { (bytes : List ℕ) → length bytes ≡ count →
             Writes self.old (with_bytes self.old at bytes) at count (λ k. slice_index bytes k) }
+        ensures sound { (bytes : List ℕ) → IsSound (with_bytes self.old at bytes) }
 
-        ensures bytes { Reads self.old at count (λ k. slice_index result.now k) }
+        ensures bytes { HasBytes self.old at count (λ k. slice_index result.now k) }
         ensures len { length result.now ≡ count }
     {
         let Some(place) = self.place_of(at, count) else {
@@ -277,20 +288,12 @@ impl Space {
         ensures* writes_back { sem 𝓛 (LendsBytes self.entry at result) }
         ensures writes { (bytes : List ℕ) → length bytes ≡ count →
             Writes self.old (with_bytes self.old at bytes) at count (λ k. slice_index bytes k) }
+        ensures sound { (bytes : List ℕ) → IsSound (with_bytes self.old at bytes) }
         ensures inside { IsInRun (runs_of self.old) at count }
         ensures len { length result.now ≡ count }
-        ensures bytes { Reads self.old at count (λ k. slice_index result.now k) }
+        ensures bytes { HasBytes self.old at count (λ k. slice_index result.now k) }
     {
         let _ = &self.runs;
         self.part_mut(place.index, place.from, count)
-    }
-}
-
-fn fill_words(part: &mut [u8], value: u64)
-    ensures { (k : ℕ) → k < length part.new → slice_index part.new k ≡ slice_index (to_le_bytes int.w64 value) (k % 8) }
-{
-    let bytes = value.to_le_bytes();
-    for (offset, slot) in part.iter_mut().enumerate() {
-        *slot = bytes[offset % 8];
     }
 }

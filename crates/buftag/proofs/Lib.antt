@@ -1,9 +1,6 @@
-pub mod AllocatedChunks
-pub mod Intact
-pub mod Marks
-pub mod RowLemmas
+pub mod FindingsLemmas
+pub mod LawsLemmas
+pub mod RowsLemmas
 pub mod ShapeLemmas
-pub mod Standing
-pub mod Verdicts
-pub mod Whole
-pub mod Words
+pub mod UnconstructedLemmas
+pub mod WrittenLemmas

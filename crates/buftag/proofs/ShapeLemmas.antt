@@ -5,11 +5,11 @@ use Rattle.std.proofs.lemmas.Bool.{and_parts, eqb-true}
 use Rattle.std.proofs.lemmas.Bool.Decides.{nat_tests}
 use Rattle.case_table.specs.Geometry.{content_of}
 use Rattle.case_table.specs.Sizes.{class_for, size_of, IsLeastClass}
-use Rattle.case_table.proofs.SizeLemmas.{class_for-small, least_from_class, size_of-small, size_of-some, size_of-words}
+use Rattle.case_table.proofs.SizesLemmas.{class_for-small, least_from_class, size_of-small, size_of-some, size_of-words}
 use Rattle.buftag.specs.declared.shape.Shape.{Shape}
 use Rattle.buftag.specs.Codes.{code_of, coded_size}
-use Rattle.buftag.specs.Findings.{half_at, is_served, told_size}
-use Rattle.buftag.specs.Shapes.{IsShape}
+use Rattle.buftag.specs.Findings.{tag_half, is_served, told_size}
+use Rattle.buftag.specs.Shape.{IsShape}
 
 -- the content holds the size
 pub size-content : (size content : ℕ) → content ≡ content_of size → size ≤ content
@@ -34,15 +34,15 @@ passed test (Some s) size e =
     both (test s) refl e
 
 -- the same where the value does not depend on the test
-pub guarded : (b : Bool) (size value : ℕ) → cond b (Some value) None ≡ Some size → (b ≡ true) × (value ≡ size)
-guarded true size value e = (refl, cc)
-guarded false size value e = absurd (cc)
+pub passed_value : (b : Bool) (size value : ℕ) → cond b (Some value) None ≡ Some size → (b ≡ true) × (value ≡ size)
+passed_value true size value e = (refl, cc)
+passed_value false size value e = absurd (cc)
 
 -- a coded size is small
 coded_size-small : (code size : ℕ) → coded_size code ≡ Some size → size ≤ 4096
 coded_size-small code size e =
     let value = (code - 1) / 251 in
-    let both = guarded (eqb code (code_of value) && leb value 4096) size value e in
+    let both = passed_value (eqb code (code_of value) && leb value 4096) size value e in
     let tests : eqb code (code_of value) && leb value 4096 ≡ true = both.0 in
     let same : value ≡ size = both.1 in
     grind (arith, nat_tests, same, tests)
@@ -51,7 +51,7 @@ coded_size-small code size e =
 pub coded_size-code : (code size : ℕ) → coded_size code ≡ Some size → code ≡ code_of size
 coded_size-code code size e =
     let value = (code - 1) / 251 in
-    let both = guarded (eqb code (code_of value) && leb value 4096) size value e in
+    let both = passed_value (eqb code (code_of value) && leb value 4096) size value e in
     let parts = and_parts (eqb code (code_of value)) (leb value 4096) both.0 in
     eqb-true code (code_of value) parts.0 ∙ ap code_of both.1
 
@@ -77,15 +77,15 @@ within shape size (Some class) s is served small = served-within shape class siz
 
 -- the size that a tag tells is that of its code, and has the chunk's class
 pub told_size-parts : (bytes : List ℕ) (shape : Shape) (size : ℕ) → told_size bytes shape ≡ Some size
-    → (coded_size (half_at bytes (shape.content + 4)) ≡ Some size) × (class_for size ≡ shape.class)
+    → (coded_size (tag_half bytes (shape.content + 4)) ≡ Some size) × (class_for size ≡ shape.class)
 told_size-parts bytes shape size e =
-    let both = passed (is_served shape) (coded_size (half_at bytes (shape.content + 4))) size e in
+    let both = passed (is_served shape) (coded_size (tag_half bytes (shape.content + 4))) size e in
     (both.0, same_option (class_for size) shape.class both.1)
 
 pub told_size-within : (bytes : List ℕ) (shape : Shape) (size : ℕ) → IsShape shape → told_size bytes shape ≡ Some size → size ≤ shape.content
 told_size-within bytes shape size s e =
     let both = told_size-parts bytes shape size e in
-    within shape size shape.class s refl both.1 (coded_size-small (half_at bytes (shape.content + 4)) size both.0)
+    within shape size shape.class s refl both.1 (coded_size-small (tag_half bytes (shape.content + 4)) size both.0)
 
 -- the shape of a class
 pub IsShape-class : (size class bufctl : ℕ) → class < 32 → size ≡ size_of class → IsShape (record { size = size; content = size; bufctl = bufctl; class = Some class })

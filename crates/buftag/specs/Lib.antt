@@ -1,5 +1,7 @@
 pub mod Codes
 pub mod Findings
+pub mod Laws
 pub mod Rows
-pub mod Shapes
+pub mod Shape
+pub mod Unconstructed
 pub mod Written

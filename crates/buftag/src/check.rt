@@ -1,76 +1,41 @@
 ghost use Rattle.std.specs.Prelude.{◌≡◌, ◌+◌, ◌≤◌, length, position};
-ghost use Rattle.buftag.specs.Findings.{decides, facts_of, finding, half_at, has_bad_guard, has_bad_low_half, has_bad_tag, kind_of, rows, told_size, word_at, wrong_word};
+ghost use Rattle.buftag.specs.Findings.{decides, facts_of, finding, tag_half, has_bad_guard, has_bad_low_half, has_bad_tag, kind_of, rows, told_size, tag_word, wrong_word};
 ghost use Rattle.buftag.specs.Rows.{finding_of_bit, kind_bit};
-ghost use Rattle.buftag.specs.Shapes.{IsChunk, IsShape};
+ghost use Rattle.buftag.specs.Shape.{IsChunk, IsShape};
 
+use crate::fact::Fact;
 use crate::facts::Facts;
 use crate::finding::Finding;
 use crate::kind::Kind;
-use crate::patterns::{FREE_WORD, GUARD_BYTE, REDZONE_HALF, REDZONE_WORD, mark_of};
+use crate::patterns::{FREE_WORD, GUARD_BYTE, REDZONE_HALF, REDZONE_WORD};
 use crate::shape::Shape;
 use crate::size_code::decode_size;
 use crate::state::State;
 use byteorder::{ByteOrder, LittleEndian};
 use case_table::{Cases, Rule, check_rows, class_of};
 
-// The states of the table's rows.
-const OF_CLASS: u32 = 1;
+// A constant can call no function, so a rule with the bits of its names is written by a macro.
+macro_rules! rule {
+    ($kind:ident, $fact:ident) => {
+        Rule {
+            state: Kind::$kind as u32,
+            fact: Fact::$fact as u32,
+        }
+    };
+}
 
-const DECLARED: u32 = 2;
-
-const UNUSED: u32 = 4;
-
-// The facts of the table's rows.
-const TAG: u32 = 1;
-
-const CODE: u32 = 2;
-
-const GUARD: u32 = 4;
-
-const LOW: u32 = 8;
-
-const WORD: u32 = 16;
-
-const PATTERN: u32 = 32;
-
+// Which chunks a rule is about, and what breaks it. The first that holds decides.
 const RULES: Cases<9> = Cases {
     rows: [
-        Rule {
-            state: OF_CLASS,
-            fact: TAG,
-        },
-        Rule {
-            state: OF_CLASS,
-            fact: CODE,
-        },
-        Rule {
-            state: OF_CLASS,
-            fact: GUARD,
-        },
-        Rule {
-            state: OF_CLASS,
-            fact: LOW,
-        },
-        Rule {
-            state: DECLARED,
-            fact: TAG,
-        },
-        Rule {
-            state: DECLARED,
-            fact: WORD,
-        },
-        Rule {
-            state: UNUSED,
-            fact: PATTERN,
-        },
-        Rule {
-            state: UNUSED,
-            fact: WORD,
-        },
-        Rule {
-            state: UNUSED,
-            fact: TAG,
-        },
+        rule!(OfClass, Tag),
+        rule!(OfClass, Code),
+        rule!(OfClass, Guard),
+        rule!(OfClass, Low),
+        rule!(Declared, Tag),
+        rule!(Declared, Word),
+        rule!(Unused, Pattern),
+        rule!(Unused, Word),
+        rule!(Unused, Tag),
     ],
 };
 
@@ -91,12 +56,16 @@ pub fn first_broken(bytes: &[u8], shape: &Shape, state: State) -> Option<Finding
 fn finding_of(fact: u32, wrong: Option<u32>) -> Finding
     ensures { result ≡ finding_of_bit fact wrong }
 {
-    match fact {
-        TAG => Finding::BadTag,
-        CODE => Finding::SizeCode,
-        GUARD => Finding::GuardByte,
-        PATTERN => Finding::Content(wrong.unwrap_or(0)),
-        _ => Finding::Redzone,
+    if fact == Fact::Tag as u32 {
+        Finding::BadTag
+    } else if fact == Fact::Code as u32 {
+        Finding::SizeCode
+    } else if fact == Fact::Guard as u32 {
+        Finding::GuardByte
+    } else if fact == Fact::Pattern as u32 {
+        Finding::Content(wrong.unwrap_or(0))
+    } else {
+        Finding::Redzone
     }
 }
 
@@ -104,24 +73,20 @@ fn finding_of(fact: u32, wrong: Option<u32>) -> Finding
 fn first_row(kind: Kind, facts: &Facts) -> Option<usize>
     ensures { result ≡ position (decides kind facts.now) rows }
 {
-    check_rows!(RULES, kind_bit(kind);
-        TAG => facts.tag,
-        CODE => facts.code,
-        GUARD => facts.guard,
-        LOW => facts.low,
-        WORD => facts.word,
-        PATTERN => facts.pattern,
+    check_rows!(RULES, bit_of(kind);
+        Fact::Tag as u32 => facts.tag,
+        Fact::Code as u32 => facts.code,
+        Fact::Guard as u32 => facts.guard,
+        Fact::Low as u32 => facts.low,
+        Fact::Word as u32 => facts.word,
+        Fact::Pattern as u32 => facts.pattern,
     )
 }
 
-fn kind_bit(kind: Kind) -> u32
+fn bit_of(kind: Kind) -> u32
     ensures { result ≡ kind_bit kind }
 {
-    match kind {
-        Kind::OfClass => OF_CLASS,
-        Kind::Declared => DECLARED,
-        Kind::Unused => UNUSED,
-    }
+    kind as u32
 }
 
 fn kind_of(shape: &Shape, state: State) -> Kind
@@ -146,21 +111,21 @@ fn facts_of(bytes: &[u8], shape: &Shape, state: State, wrong: Option<u32>) -> Fa
         code: size.is_none(),
         guard: has_bad_guard(bytes, shape, size),
         low: has_bad_low_half(bytes, shape, size),
-        word: word_at(bytes, shape.content as usize) != REDZONE_WORD,
+        word: tag_word(bytes, shape.content as usize) != REDZONE_WORD,
         pattern: wrong.is_some(),
     }
 }
 
-fn word_at(bytes: &[u8], at: usize) -> u64
+fn tag_word(bytes: &[u8], at: usize) -> u64
     requires { at + 8 ≤ length bytes.now }
-    ensures { result ≡ word_at bytes.now at }
+    ensures { result ≡ tag_word bytes.now at }
 {
     LittleEndian::read_u64(&bytes[at..])
 }
 
-fn half_at(bytes: &[u8], at: usize) -> u32
+fn tag_half(bytes: &[u8], at: usize) -> u32
     requires { at + 4 ≤ length bytes.now }
-    ensures { result ≡ half_at bytes.now at }
+    ensures { result ≡ tag_half bytes.now at }
 {
     LittleEndian::read_u32(&bytes[at..])
 }
@@ -170,7 +135,7 @@ fn told_size(bytes: &[u8], shape: &Shape) -> Option<u32>
     requires { IsChunk bytes.now shape.now }
     ensures { result ≡ told_size bytes.now shape.now }
 {
-    let size = decode_size(half_at(bytes, shape.content as usize + 4))?;
+    let size = decode_size(tag_half(bytes, shape.content as usize + 4))?;
     (class_of(u64::from(size)) == shape.class).then_some(size)
 }
 
@@ -181,7 +146,7 @@ fn wrong_word(bytes: &[u8], shape: &Shape) -> Option<u32>
 {
     for index in 0..shape.content / 8 {
         let offset = 8 * index;
-        if word_at(bytes, offset as usize) != FREE_WORD {
+        if tag_word(bytes, offset as usize) != FREE_WORD {
             return Some(offset);
         }
     }
@@ -193,8 +158,8 @@ fn has_bad_tag(bytes: &[u8], shape: &Shape, state: State) -> bool
     ensures { result ≡ has_bad_tag bytes.now shape.now state }
 {
     let bufctl = shape.content as usize + 8;
-    word_at(bytes, bufctl) != shape.bufctl
-        || word_at(bytes, bufctl + 8) != shape.bufctl ^ mark_of(state)
+    tag_word(bytes, bufctl) != shape.bufctl
+        || tag_word(bytes, bufctl + 8) != shape.bufctl ^ state.mark()
 }
 
 /// Whether the byte behind the size that the tag tells is not the guard byte.
@@ -216,7 +181,7 @@ fn has_bad_low_half(bytes: &[u8], shape: &Shape, size: Option<u32>) -> bool
     requires told { size ≡ told_size bytes.now shape.now }
     ensures { result ≡ has_bad_low_half bytes.now shape.now }
 {
-    let low = half_at(bytes, shape.content as usize);
+    let low = tag_half(bytes, shape.content as usize);
     if size == Some(shape.content) {
         low / 256 != REDZONE_HALF / 256
     } else {

@@ -11,4 +11,7 @@ pub enum Finding {
     GuardByte,
     /// The bufctl word or bxstat was written to, or is that of the other state.
     BadTag,
+    /// A free object without a tag is not as its constructor left it: the offset in bytes of the first byte
+    /// that differs. `first_unconstructed` tells it.
+    Unconstructed(u32),
 }

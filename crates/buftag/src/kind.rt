@@ -1,8 +1,10 @@
-/// The chunks that a rule is about: allocated ones of a size class, allocated ones of a declared cache, and
-/// free ones.
-#[derive(Clone, Copy)]
+/// The chunks that a rule is about, each with its bit in the table of rules.
+#[derive(Clone, Copy, Debug, PartialEq, Eq)]
 pub enum Kind {
-    OfClass,
-    Declared,
-    Unused,
+    /// An allocated chunk of a size class.
+    OfClass = 1,
+    /// An allocated chunk of a declared cache.
+    Declared = 2,
+    /// A free chunk.
+    Unused = 4,
 }

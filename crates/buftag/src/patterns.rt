@@ -1,10 +1,5 @@
 //! The numbers of umem_debug(3MALLOC) that stand in chunks, in the 64-bit layout of this project.
 
-ghost use Rattle.std.specs.Prelude.{◌≡◌};
-ghost use Rattle.buftag.specs.Written.{mark_of};
-
-use crate::state::State;
-
 /// Each word of a free chunk's content.
 pub const FREE_WORD: u64 = 0xdead_beef_dead_beef;
 
@@ -20,12 +15,11 @@ pub const REDZONE_WORD: u64 = 0xfeed_face_feed_face;
 /// The byte behind the requested size.
 pub const GUARD_BYTE: u8 = 0xbb;
 
-/// By what bxstat differs from the bufctl word.
-pub fn mark_of(state: State) -> u64
-    ensures { result ≡ mark_of state }
-{
-    match state {
-        State::Allocated => 0xa110_c8ed,
-        State::Free => 0xf4ee_f4ee,
-    }
-}
+/// By what bxstat of an allocated chunk differs from the bufctl word.
+pub const ALLOCATED_MARK: u64 = 0xa110_c8ed;
+
+/// By what bxstat of a free chunk differs from the bufctl word.
+pub const FREE_MARK: u64 = 0xf4ee_f4ee;
+
+/// By what a requested size is multiplied to give its code, which is one more.
+pub const SIZE_FACTOR: u32 = 251;

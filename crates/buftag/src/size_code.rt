@@ -1,24 +1,22 @@
-ghost use Rattle.std.specs.Prelude.{◌≡◌, ◌≢◌, ℕ, ◌≤◌, MatchOption};
-ghost use Rattle.buftag.specs.Codes.{code_of, coded_size};
+ghost use Rattle.std.specs.Prelude.{◌≡◌, ◌≤◌};
+ghost use Rattle.buftag.specs.Codes.{IsCoded, code_of, coded_size};
 
-/// The largest size that a code tells.
-const LARGEST: u32 = 4096;
-
-const FACTOR: u32 = 251;
+use crate::patterns::SIZE_FACTOR;
+use case_table::MOST_CACHE_BYTES;
 
 /// The code by which the redzone word tells a requested size, after umem_debug(3MALLOC).
 pub fn encode_size(size: u32) -> u32
-    requires { size ≤ 4096 }
+    requires { size ≤ MOST_CACHE_BYTES }
     ensures { result ≡ code_of size }
 {
-    FACTOR * size + 1
+    SIZE_FACTOR * size + 1
 }
 
 /// The size that a code tells, or `None` where it is the code of no size up to 4,096.
 pub fn decode_size(code: u32) -> Option<u32>
     ensures value { result ≡ coded_size code }
-    ensures relation { MatchOption result ((size : ℕ) → size ≤ 4096 → code ≢ code_of size) (λ size. (size ≤ 4096) × (code ≡ code_of size)) }
+    ensures relation { IsCoded code result }
 {
-    let size = code.checked_sub(1)? / FACTOR;
-    (size <= LARGEST && encode_size(size) == code).then_some(size)
+    let size = code.checked_sub(1)? / SIZE_FACTOR;
+    (size <= MOST_CACHE_BYTES && encode_size(size) == code).then_some(size)
 }

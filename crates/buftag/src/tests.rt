@@ -357,3 +357,16 @@ fn codes(rt: HostRuntime) {
     }
     assert_eq!(rt; encode_size(24), 6025);
 }
+
+#[test]
+fn finds_the_first_unconstructed_byte(rt: HostRuntime) {
+    for (bytes, value, at) in [
+        (b"".as_slice(), 0xa5, None),
+        (b"\xa5\xa5\xa5", 0xa5, None),
+        (b"\xa5\xa5\xa5\0\xa5\xa5\xa5\xa5\xa5", 0xa5, Some(3)),
+        (b"\0\0\0\0\0\0\0\0\x01", 0, Some(8)),
+        (b"\x01\0\0\x01", 0, Some(0)),
+    ] {
+        assert_eq!(rt; first_unconstructed(bytes, value), at);
+    }
+}

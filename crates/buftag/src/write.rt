@@ -1,14 +1,16 @@
 ghost use Rattle.std.specs.Prelude.{◌≡◌, ◌^◌, ◌<◌, ◌≤◌, None, length};
 ghost use Rattle.byteorder.specs.Endian.{little_bytes};
 ghost use Rattle.buftag.specs.Findings.{finding};
-ghost use Rattle.buftag.specs.Shapes.{IsChunk, IsRequest, IsShape};
-ghost use Rattle.buftag.specs.Written.{allocated_chunk, bufctl_bytes, free_chunk, fresh_content, pattern, redzone_bytes};
+ghost use Rattle.buftag.specs.Shape.{IsChunk, IsRequest, IsShape};
+ghost use Rattle.buftag.specs.Written.{allocated_chunk, bufctl_bytes, free_chunk, fresh_content, redzone_bytes};
 
-use crate::patterns::{FREE_WORD, FRESH_WORD, GUARD_BYTE, REDZONE_HALF, REDZONE_WORD, mark_of};
+use crate::patterns::{FREE_WORD, FRESH_WORD, GUARD_BYTE, REDZONE_HALF, REDZONE_WORD};
 use crate::shape::Shape;
 use crate::size_code::encode_size;
 use crate::state::State;
 use byteorder::{ByteOrder, LittleEndian};
+use case_table::MOST_CACHE_BYTES;
+use umem_base::fill_words;
 
 /// Writes the state of a free chunk: the pattern in its content, and the tag of free chunks.
 pub fn write_free(bytes: &mut [u8], shape: &Shape)
@@ -55,15 +57,6 @@ fn write_fresh(content: &mut [u8], requested: u32, zero: bool)
     }
 }
 
-fn fill_words(part: &mut [u8], word: u64)
-    ensures { part.new ≡ pattern (length part.old) word }
-{
-    let bytes = word.to_le_bytes();
-    for (offset, slot) in part.iter_mut().enumerate() {
-        *slot = bytes[offset % 8];
-    }
-}
-
 fn write_word(bytes: &mut [u8], word: u64)
     requires { length bytes.old ≡ 8 }
     ensures { bytes.new ≡ little_bytes 8 word }
@@ -73,7 +66,7 @@ fn write_word(bytes: &mut [u8], word: u64)
 
 fn write_redzone(redzone: &mut [u8], shape: &Shape, requested: u32)
     requires room { length redzone.old ≡ 8 }
-    requires small { requested ≤ 4096 }
+    requires small { requested ≤ MOST_CACHE_BYTES }
     ensures { redzone.new ≡ redzone_bytes shape.now.class requested }
 {
     if shape.class.is_some() {
@@ -91,5 +84,5 @@ fn write_bufctl(bufctl: &mut [u8], shape: &Shape, state: State)
     ensures fits { shape.now.bufctl < 2 ^ 64 }
 {
     LittleEndian::write_u64(bufctl, shape.bufctl);
-    LittleEndian::write_u64(&mut bufctl[8..], shape.bufctl ^ mark_of(state));
+    LittleEndian::write_u64(&mut bufctl[8..], shape.bufctl ^ state.mark());
 }

@@ -4,9 +4,9 @@ use Rattle.std.proofs.lemmas.Bool.{cases_lt}
 use Rattle.std.proofs.lemmas.Bool.Decides.{nat_tests}
 use Rattle.std.proofs.lemmas.Nat.{le-div, mul-mod_second}
 use Rattle.std.proofs.Math.Nat.{div-add-mod', mod-lt, mul-div-le, mul-le-mul_left, mul-le-mul_right, mul-mod_right, mul_comm, add-mod, zero-mod}
-use Rattle.umem_base.specs.Pages.{page_size}
+use Rattle.umem_base.specs.declared.pages.TheConstants.{PAGE_BYTES}
 use Rattle.case_table.specs.declared.slab_quantities.Geometry.{Geometry}
-use Rattle.case_table.specs.Geometry.{IsAlign, IsCacheShape, IsSlabGeometry, tag_of, round_up, content_of, chunk_of, pages_of, rounds_of, leftover_of, magazine_of, geometry_of, colour_of, ChunksStand}
+use Rattle.case_table.specs.Geometry.{IsAlign, IsCacheShape, IsSlabGeometry, tag_of, round_up, content_of, chunk_of, pages_of, rounds_per_slab, leftover_of, magazine_of, geometry_of, colour_of, KeepsChunksApart}
 
 -- the four alignments
 pub align_cases : (align : ℕ) → IsAlign align → (align ≡ 8) ⊎ ((align ≡ 16) ⊎ ((align ≡ 32) ⊎ (align ≡ 64)))
@@ -57,9 +57,9 @@ align_bounds align h = let cases = align_cases align h in (omega arith, omega ar
 pub record IsSlab (chunk : ℕ) : Type 0 where
   pub pages_some : 1 ≤ pages_of chunk
   pub pages_small : pages_of chunk ≤ 9
-  pub rounds_many : 8 ≤ rounds_of chunk
-  pub rounds_small : rounds_of chunk ≤ 512
-  pub filled : rounds_of chunk * chunk + leftover_of chunk ≡ pages_of chunk * page_size
+  pub rounds_many : 8 ≤ rounds_per_slab chunk
+  pub rounds_small : rounds_per_slab chunk ≤ 512
+  pub filled : rounds_per_slab chunk * chunk + leftover_of chunk ≡ pages_of chunk * PAGE_BYTES
   pub leftover_small : leftover_of chunk < chunk
 
 few_rounds : (chunk rounds : ℕ) → 8 ≤ chunk → rounds * chunk ≤ pages_of chunk * 4096 → rounds ≤ 512
@@ -73,14 +73,14 @@ few_rounds chunk rounds low fits = elim (cases_lt 512 rounds) [
 pub slab_of : (chunk : ℕ) → 8 ≤ chunk → chunk ≤ 4160 → IsSlab chunk
 slab_of chunk low high =
     let positive : 0 < chunk = omega arith in
-    let whole = div-add-mod' (pages_of chunk * page_size) chunk in
-    let rest = mod-lt (pages_of chunk * page_size) positive in
-    let fits : 8 * chunk ≤ pages_of chunk * page_size = omega arith in
+    let whole = div-add-mod' (pages_of chunk * PAGE_BYTES) chunk in
+    let rest = mod-lt (pages_of chunk * PAGE_BYTES) positive in
+    let fits : 8 * chunk ≤ pages_of chunk * PAGE_BYTES = omega arith in
     record {
       pages_some = omega arith;
       pages_small = omega arith;
-      rounds_many = le-div 8 (pages_of chunk * page_size) chunk (omega arith) fits;
-      rounds_small = few_rounds chunk (rounds_of chunk) low (omega arith);
+      rounds_many = le-div 8 (pages_of chunk * PAGE_BYTES) chunk (omega arith) fits;
+      rounds_small = few_rounds chunk (rounds_per_slab chunk) low (omega arith);
       filled = omega arith;
       leftover_small = omega arith;
     }
@@ -152,7 +152,7 @@ colour_small align leftover made =
     let top : align * (made % (places + 1)) ≤ align * places = mul-le-mul_left align (omega arith) in
     omega (arith, mul-div-le leftover align)
 
-pub chunks_stand : (size align : ℕ) (guards : Bool) (made : ℕ) → IsCacheShape size align → ChunksStand align made (geometry_of size align guards)
+pub chunks_stand : (size align : ℕ) (guards : Bool) (made : ℕ) → IsCacheShape size align → KeepsChunksApart align made (geometry_of size align guards)
 chunks_stand size align guards made shape =
     let g = geometry_of size align guards in
     let sound = geometry_is_sound size align guards shape in

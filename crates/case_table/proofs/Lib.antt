@@ -1,4 +1,6 @@
-pub mod CaseLemmas
+pub mod AddressesLemmas
+pub mod CacheNameLemmas
+pub mod CasesLemmas
 pub mod GeometryLemmas
 pub mod RecordLemmas
-pub mod SizeLemmas
+pub mod SizesLemmas

@@ -1,17 +1,17 @@
 -- A record that is read is the record that was written, and the bytes that are read are the values'.
-use Rattle.std.proofs.Common.{◌≡◌, ℕ, zero, suc, ◌+◌, ◌-◌, ◌*◌, ◌/◌, ◌%◌, ◌^◌, ◌<◌, ◌≤◌, true, List, [], ◌∷◌, ◌++◌, length, get_or, set, take, drop, refl, sym, ap, ◌∙◌, append_assoc, arith, ◌⊎◌}
-use Rattle.std.specs.Prelude.{sum}
+use Rattle.std.proofs.Common.{◌≡◌, ℕ, zero, suc, ◌+◌, ◌-◌, ◌*◌, ◌/◌, ◌%◌, ◌^◌, ◌<◌, ◌≤◌, true, List, [], ◌∷◌, ◌++◌, length, get_or, set, take, drop, refl, sym, ap, ◌∙◌, append_assoc, arith, ◌⊎◌, inl, inr}
+use Rattle.std.specs.Prelude.{All, sum}
 use Rattle.std.specs.Int.{byte_at, bytes_low_first}
 use Rattle.std.proofs.Math.Nat.{div-div-eq-div-mul, div-one, pow-succ'}
-use Rattle.std.proofs.lemmas.List.{append-nil, take-append-drop, take_at, drop_at, take_all, take_more as take_more_item, take_more_set, length-append, length-take, length-drop, get_or-drop}
-use Rattle.std.proofs.lemmas.Bool.{and_parts}
+use Rattle.std.proofs.lemmas.List.{append-nil, take-append-drop, take_at, drop_at, take_all, take_more as take_more_item, take_more_set, length-append, length-take, length-drop, get_or-drop, get_or_past}
+use Rattle.std.proofs.lemmas.Bool.{and_parts, cases_lt}
 use Rattle.std.proofs.lemmas.Bool.Decides.{nat_tests}
 use Rattle.std.proofs.lemmas.List.Sums.{sum_by-cons}
 use Rattle.std.specs.List.{list_all}
 use Rattle.std.proofs.Math.Seq.{take-add}
 use Rattle.byteorder.specs.Endian.{little_bytes, little_number, little_from}
 use Rattle.byteorder.specs.Numbers.{little_from-cons, little_number-reads_back, length-bytes_low_first, little_from-lt}
-use Rattle.case_table.specs.Record.{AreWidths, Fit, StandAt, is_width, spelling}
+use Rattle.case_table.specs.Record.{AreWidths, Fit, StandAt, is_width, numbers_at, spelling}
 
 abbrev pub IsBytes : List ℕ → Type 0
 IsBytes bytes = (i : ℕ) → get_or bytes i 0 < 256
@@ -201,3 +201,58 @@ put_stands before widths values behind fit =
 pub same_behind_spelling : (widths xs ys more rest : List ℕ) → Fit widths xs → Fit widths ys → spelling widths xs ++ more ≡ spelling widths ys ++ rest → more ≡ rest
 same_behind_spelling widths xs ys more rest fx fy e =
     sym (drop_at (spelling widths xs) more (sum widths) (length-spelling widths xs fx)) ∙ ap (drop (sum widths)) e ∙ drop_at (spelling widths ys) rest (sum widths) (length-spelling widths ys fy)
+
+-- ---- the numbers at a place
+
+-- bytes as they are told of one by one
+pub IsBytes-from_All : (bytes : List ℕ) → All (λ byte. byte < 256) bytes → IsBytes bytes
+IsBytes-from_All bytes all i = elim (cases_lt i (length bytes)) [
+  | inl lt ↦ all i 0 lt
+  | inr past ↦ let none = get_or_past bytes i 0 past in omega arith
+]
+
+IsBytes-drop : (bytes : List ℕ) (n : ℕ) → IsBytes bytes → IsBytes (drop n bytes)
+IsBytes-drop bytes n fits i = rw get_or-drop (fits (n + i))
+
+-- the numbers are spelled as the bytes that they are read from
+pub spelling-numbers_at : (widths bytes : List ℕ) → IsBytes bytes → sum widths ≤ length bytes → spelling widths (numbers_at widths bytes) ≡ take (sum widths) bytes
+spelling-numbers_at [] bytes fits room = refl
+spelling-numbers_at (w ∷ ws) bytes fits room =
+    let all : sum (w ∷ ws) ≡ w + sum ws = sum-cons w ws in
+    let first = bytes_of_number w bytes fits (omega arith) in
+    let rest = spelling-numbers_at ws (drop w bytes) (IsBytes-drop bytes w fits) (omega (arith, length-drop w bytes)) in
+    rw (all, first, rest) (sym (take-add w (sum ws) bytes))
+
+-- each fits its width
+pub Fit-numbers_at : (widths bytes : List ℕ) → IsBytes bytes → Fit widths (numbers_at widths bytes)
+Fit-numbers_at [] bytes fits = tt
+Fit-numbers_at (w ∷ ws) bytes fits = (little_from-lt 0 w bytes fits, Fit-numbers_at ws (drop w bytes) (IsBytes-drop bytes w fits))
+
+-- there is one for each width
+pub length-numbers_at : (widths bytes : List ℕ) → length (numbers_at widths bytes) ≡ length widths
+length-numbers_at [] bytes = refl
+length-numbers_at (w ∷ ws) bytes = omega (arith, length-numbers_at ws (drop w bytes))
+
+-- a spelling has its numbers at the front
+pub numbers_at-spelling : (widths values behind : List ℕ) → Fit widths values → numbers_at widths (spelling widths values ++ behind) ≡ values
+numbers_at-spelling [] [] behind fit = refl
+numbers_at-spelling [] (v ∷ vs) behind fit = absurd fit
+numbers_at-spelling (w ∷ ws) [] behind fit = absurd fit
+numbers_at-spelling (w ∷ ws) (v ∷ vs) behind fit =
+    let others = spelling ws vs ++ behind in
+    let first : little_number w (little_bytes w v ++ others) ≡ v = little_number-reads_back w v others fit.0 in
+    let rest : drop w (little_bytes w v ++ others) ≡ others = drop_at (little_bytes w v) others w (length-bytes_low_first 0 w v) in
+    rw (append_assoc (little_bytes w v) (spelling ws vs) behind, first, rest) (ap (λ (t : List ℕ). v ∷ t) (numbers_at-spelling ws vs behind fit.1))
+
+-- values that stand somewhere are the numbers there
+pub numbers_at-place : (widths bytes : List ℕ) (at : ℕ) (values : List ℕ) → StandAt widths bytes at values → values ≡ numbers_at widths (drop at bytes)
+numbers_at-place widths bytes at values s =
+    let rest = drop (sum widths) (drop at bytes) in
+    let whole : drop at bytes ≡ spelling widths values ++ rest = sym (take-append-drop (sum widths) (drop at bytes)) ∙ ap (λ (t : List ℕ). t ++ rest) s.spelled in
+    sym (ap (numbers_at widths) whole ∙ numbers_at-spelling widths values rest s.fit)
+
+-- where there are bytes enough, the numbers stand
+pub stand_numbers : (widths bytes : List ℕ) (at : ℕ) → IsBytes bytes → sum widths ≤ length bytes - at → StandAt widths bytes at (numbers_at widths (drop at bytes))
+stand_numbers widths bytes at fits room =
+    let rest_fits = IsBytes-drop bytes at fits in
+    record { fit = Fit-numbers_at widths (drop at bytes) rest_fits; spelled = sym (spelling-numbers_at widths (drop at bytes) rest_fits (omega (arith, length-drop at bytes))) }

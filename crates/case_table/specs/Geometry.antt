@@ -1,22 +1,21 @@
 -- The quantities of a cache's slabs, each as its formula.
-use Rattle.std.specs.Prelude.{◌≡◌, ℕ, ◌+◌, ◌-◌, ◌*◌, ◌/◌, ◌%◌, ◌<◌, ◌≤◌, Bool, ◌||◌, ◌==◌, IsTrue, max, nat_le, if◌then◌else◌}
-use Rattle.umem_base.specs.Pages.{page_size, pages_for}
-use Rattle.case_table.specs.declared.cache_def.CacheDef.{CacheDef}
+use Rattle.std.specs.Prelude.{◌≡◌, ℕ, ◌+◌, ◌-◌, ◌*◌, ◌/◌, ◌%◌, ◌<◌, ◌≤◌, Bool, ◌==◌, IsTrue, max, nat_le, if◌then◌else◌}
+use Rattle.std.specs.List.{list_any}
+use Rattle.umem_base.specs.declared.pages.TheConstants.{PAGE_BYTES}
+use Rattle.umem_base.specs.Pages.{pages_for}
+use Rattle.case_table.specs.declared.limits.TheConstants.{MOST_CACHE_BYTES}
+use Rattle.case_table.specs.declared.slab_formulas.TheConstants.{ALIGNS, LARGE_CHUNK_ROUNDS, MIDDLING_CHUNK, MIDDLING_CHUNK_ROUNDS, SMALL_CHUNK, SMALL_CHUNK_ROUNDS, TAG_BYTES}
 use Rattle.case_table.specs.declared.slab_quantities.Geometry.{Geometry}
 
 -- what the addresses of a cache's buffers may be multiples of
 abbrev pub IsAlign : ℕ → Type 0
-IsAlign align = IsTrue (align == 8 || align == 16 || align == 32 || align == 64)
+IsAlign align = IsTrue (list_any (λ one. one == align) ALIGNS)
 
 -- a size and an alignment that a cache may have
 pub record IsCacheShape (size align : ℕ) : Type 0 where
   pub some : 0 < size
-  pub fits : size ≤ 4096
+  pub fits : size ≤ MOST_CACHE_BYTES
   pub aligned : IsAlign align
-
--- a cache that may be declared, its name aside
-abbrev pub IsCacheDef : CacheDef → Type 0
-IsCacheDef def = IsCacheShape def.size def.align
 
 -- the least multiple of step that is not below n
 abbrev pub round_up : ℕ → ℕ → ℕ
@@ -24,7 +23,7 @@ round_up n step = (n + (step - 1)) / step * step
 
 -- the bytes behind the content: the redzone word, the bufctl word and bxstat, or none
 abbrev pub tag_of : Bool → ℕ
-tag_of guards = if guards then 24 else 0
+tag_of guards = if guards then TAG_BYTES else 0
 
 -- the bytes of a buffer in whole words
 abbrev pub content_of : ℕ → ℕ
@@ -39,22 +38,31 @@ abbrev pub pages_of : ℕ → ℕ
 pages_of chunk = max 1 (pages_for (8 * chunk))
 
 -- the chunks of a slab
-abbrev pub rounds_of : ℕ → ℕ
-rounds_of chunk = pages_of chunk * page_size / chunk
+abbrev pub rounds_per_slab : ℕ → ℕ
+rounds_per_slab chunk = pages_of chunk * PAGE_BYTES / chunk
 
 -- the bytes of a slab that no chunk takes
 abbrev pub leftover_of : ℕ → ℕ
-leftover_of chunk = pages_of chunk * page_size - rounds_of chunk * chunk
+leftover_of chunk = pages_of chunk * PAGE_BYTES - rounds_per_slab chunk * chunk
 
 -- the rounds of a magazine
 abbrev pub magazine_of : ℕ → ℕ
-magazine_of chunk = if nat_le chunk 128 then 15 else (if nat_le chunk 512 then 7 else 3)
+magazine_of chunk =
+    if nat_le chunk SMALL_CHUNK then SMALL_CHUNK_ROUNDS else (
+    if nat_le chunk MIDDLING_CHUNK then MIDDLING_CHUNK_ROUNDS else LARGE_CHUNK_ROUNDS)
 
 -- all of them
 unfoldable pub geometry_of : ℕ → ℕ → Bool → Geometry
 geometry_of size align guards =
     let chunk = chunk_of size align guards in
-    record { content = content_of size; chunk = chunk; pages = pages_of chunk; rounds = rounds_of chunk; leftover = leftover_of chunk; magazine = magazine_of chunk }
+    record {
+      content = content_of size;
+      chunk = chunk;
+      pages = pages_of chunk;
+      rounds = rounds_per_slab chunk;
+      leftover = leftover_of chunk;
+      magazine = magazine_of chunk;
+    }
 
 -- where the first chunk of a slab begins, for the slab before which its cache made so many others
 abbrev pub colour_of : ℕ → ℕ → ℕ → ℕ
@@ -66,7 +74,7 @@ pub record IsSlabGeometry (size align : ℕ) (guards : Bool) (g : Geometry) : Ty
   pub align_small : align ≤ 64
   pub content_holds : size ≤ g.content
   pub content_words : g.content % 8 ≡ 0
-  pub content_small : g.content ≤ 4096
+  pub content_small : g.content ≤ MOST_CACHE_BYTES
   pub tag_fits : g.content + tag_of guards ≤ g.chunk
   pub chunk_words : g.chunk % 8 ≡ 0
   pub chunk_aligned : g.chunk % align ≡ 0
@@ -76,18 +84,18 @@ pub record IsSlabGeometry (size align : ℕ) (guards : Bool) (g : Geometry) : Ty
   pub pages_small : g.pages ≤ 9
   pub rounds_many : 8 ≤ g.rounds
   pub rounds_small : g.rounds ≤ 512
-  pub filled : g.rounds * g.chunk + g.leftover ≡ g.pages * page_size
+  pub filled : g.rounds * g.chunk + g.leftover ≡ g.pages * PAGE_BYTES
   pub leftover_small : g.leftover < g.chunk
-  pub magazine_some : 3 ≤ g.magazine
-  pub magazine_small : g.magazine ≤ 15
+  pub magazine_some : LARGE_CHUNK_ROUNDS ≤ g.magazine
+  pub magazine_small : g.magazine ≤ SMALL_CHUNK_ROUNDS
 
 -- where chunk i of a slab begins, in bytes from the slab's base
 abbrev pub chunk_at : ℕ → ℕ → Geometry → ℕ → ℕ
 chunk_at align made g i = colour_of align g.leftover made + i * g.chunk
 
--- how the chunks of a slab stand, before which its cache made so many others
-pub record ChunksStand (align made : ℕ) (g : Geometry) : Type 0 where
-  pub inside : (i : ℕ) → i < g.rounds → chunk_at align made g i + g.chunk ≤ g.pages * page_size
+-- the chunks of a slab stand in it, aligned and apart, where its cache made so many other slabs before
+pub record KeepsChunksApart (align made : ℕ) (g : Geometry) : Type 0 where
+  pub inside : (i : ℕ) → i < g.rounds → chunk_at align made g i + g.chunk ≤ g.pages * PAGE_BYTES
   pub aligned : (i : ℕ) → chunk_at align made g i % align ≡ 0
   pub in_words : (i : ℕ) → chunk_at align made g i % 8 ≡ 0
   pub apart : (i j : ℕ) → i < j → chunk_at align made g i + g.chunk ≤ chunk_at align made g j

@@ -1,3 +1,6 @@
+pub mod Addresses
+pub mod CacheDef
+pub mod CacheName
 pub mod Cases
 pub mod Geometry
 pub mod Record

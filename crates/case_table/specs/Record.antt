@@ -1,7 +1,7 @@
 -- The spelling of a record: one number after the other, each in the bytes of its width, the lowest first.
 use Rattle.std.specs.Prelude.{◌≡◌, ℕ, ◌*◌, ◌^◌, ◌<◌, Bool, ◌||◌, ◌==◌, List, [], ◌∷◌, ◌++◌, length, take, drop, sum, IsTrue, Option, Some, None, if◌then◌else◌}
 use Rattle.std.specs.List.{list_all}
-use Rattle.byteorder.specs.Endian.{little_bytes}
+use Rattle.byteorder.specs.Endian.{little_bytes, little_number}
 
 -- a field has 1, 2, 4 or 8 bytes
 abbrev pub is_width : ℕ → Bool
@@ -25,6 +25,11 @@ Fit _ _ = ⊥
 abbrev pub spelling : List ℕ → List ℕ → List ℕ
 spelling (width ∷ widths) (value ∷ values) = little_bytes width value ++ spelling widths values
 spelling _ _ = []
+
+-- the numbers at the front of the bytes, one for each width
+abbrev pub numbers_at : List ℕ → List ℕ → List ℕ
+numbers_at [] bytes = []
+numbers_at (width ∷ widths) bytes = little_number width bytes ∷ numbers_at widths (drop width bytes)
 
 -- the values fit, and their spelling stands in the bytes at that place
 pub record StandAt (widths bytes : List ℕ) (at : ℕ) (values : List ℕ) : Type 0 where

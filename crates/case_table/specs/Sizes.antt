@@ -1,12 +1,11 @@
 -- The size classes.
-use Rattle.std.specs.Prelude.{ℕ, zero, suc, ◌<◌, ◌≤◌, List, [], ◌∷◌, Option, None, nat_le, position, slice_index}
+use Rattle.std.specs.Prelude.{ℕ, zero, suc, ◌<◌, ◌≤◌, List, Option, None, nat_le, position, slice_index}
+use Rattle.case_table.specs.declared.limits.TheConstants.{CLASS_COUNT}
+use Rattle.case_table.specs.declared.size_classes.TheConstants.{SIZE_TABLE}
 
 -- the sizes of the classes, by class number
 unfoldable pub class_sizes : List ℕ
-class_sizes =
-    8 ∷ 16 ∷ 24 ∷ 32 ∷ 40 ∷ 48 ∷ 56 ∷ 64 ∷ 80 ∷ 96 ∷ 112 ∷ 128 ∷ 160 ∷ 192 ∷ 224 ∷ 256
-    ∷ 320 ∷ 384 ∷ 448 ∷ 512 ∷ 640 ∷ 768 ∷ 896 ∷ 1024 ∷ 1280 ∷ 1536 ∷ 1792 ∷ 2048
-    ∷ 2560 ∷ 3072 ∷ 3584 ∷ 4096 ∷ []
+class_sizes = SIZE_TABLE
 
 -- the size of a class, which is 0 where there is no such class
 unfoldable pub size_of : ℕ → ℕ
@@ -20,6 +19,6 @@ class_for (suc n) = position (nat_le (suc n)) class_sizes
 -- the class holds the size, and no class before it does
 pub record IsLeastClass (size class : ℕ) : Type 0 where
   pub some : 0 < size
-  pub is_class : class < 32
+  pub is_class : class < CLASS_COUNT
   pub holds : size ≤ size_of class
   pub least : (before : ℕ) → before < class → size_of before < size

@@ -1,15 +1,17 @@
-ghost use Rattle.std.specs.Prelude.{◌≡◌, ℕ, ◌+◌, ◌-◌, ◌*◌, ◌^◌, ◌≤◌, ◌<◌, ◌↔◌, List, ◌++◌, length, sum, take, vec_len, IsTrue, IfOk, IsErr, OnOk, OnErr};
+ghost use Rattle.std.specs.Prelude.{◌≡◌, ℕ, ◌+◌, ◌-◌, ◌*◌, ◌^◌, ◌≤◌, ◌<◌, ◌↔◌, List, ◌++◌, length, sum, take, drop, vec_len, IsTrue, IfOk, IfErr, IsErr, OnOk, OnErr};
 ghost use Rattle.std.specs.List.{list_all};
-ghost use Rattle.case_table.specs.Record.{AreWidths, Fit, StandAt, is_width, layout_of, spelling};
+ghost use Rattle.case_table.specs.Record.{AreWidths, Fit, StandAt, is_width, layout_of, numbers_at, spelling};
 ghost use Rattle.byteorder.specs.Endian.{little_bytes};
 
 use byteorder::{ByteOrder, LittleEndian};
 use std::marker::Model;
 use umem_base::NoMemory;
 
-/// Fewer bytes are left than the record has.
+/// Fewer bytes are left from `at` on than the record has that begins there.
 #[derive(Clone, Copy, Debug, PartialEq, Eq)]
-pub struct Short;
+pub struct Short {
+    pub at: usize,
+}
 
 /// The widths in bytes of a record's `N` fields, which follow one another with nothing between them.
 /// Contracts see the list of the widths. Such records are this project's own.
@@ -68,15 +70,17 @@ impl<const N: usize> Layout<N> {
     /// The values of the record that stands in the bytes at `at`, whatever follows it.
     pub fn take_record(&self, bytes: &[u8], at: usize) -> Result<[u64; N], Short>
         requires { at ≤ length bytes.now }
+        ensures numbers { IfOk result (λ values. values ≡ numbers_at self.now (drop at bytes.now)) }
         // The bytes that were read are those of the values.
         ensures found { IfOk result (StandAt self.now bytes.now at) }
         // Values whose bytes stand there are the answer.
         ensures only { (values : List ℕ) → StandAt self.now bytes.now at values → result ≡ Ok values }
         ensures short { IsErr result ↔ (length bytes.now - at < sum self.now) }
+        ensures place { IfErr result (λ short. short.at ≡ at) }
     {
         let rest = &bytes[at..];
         if rest.len() < self.length() {
-            return Err(Short);
+            return Err(Short { at });
         }
         let mut values = [0; N];
         take_fields(rest, &self.widths, &mut values);

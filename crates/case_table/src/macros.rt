@@ -1,5 +1,5 @@
 /// Reads the record at a place of some bytes, and binds its fields to names: where it is short, `?`
-/// returns what comes of `Short`. `take_fields!(layout, bytes, at => version, flags);`
+/// returns what `From<Short>` makes of the place. `take_fields!(layout, bytes, at => version, flags);`
 #[macro_export]
 macro_rules! take_fields {
     ($layout:expr, $bytes:expr, $at:expr => $($field:ident),+ $(,)?) => {

@@ -1,5 +1,7 @@
 ghost use Rattle.std.specs.Prelude.{◌≡◌, ◌<◌, ◌↔◌, ◌⊎◌, IfSome, IsNone, length, nat_le, position};
-ghost use Rattle.case_table.specs.Sizes.{class_for, IsLeastClass};
+ghost use Rattle.case_table.specs.Sizes.{class_for, size_of, IsLeastClass};
+
+use crate::limits::{CLASS_COUNT, MOST_CACHE_BYTES};
 
 /// The sizes of the classes in bytes, by class number.
 pub const SIZE_TABLE: [u32; 32] = [
@@ -7,12 +9,23 @@ pub const SIZE_TABLE: [u32; 32] = [
     768, 896, 1024, 1280, 1536, 1792, 2048, 2560, 3072, 3584, 4096,
 ];
 
+/// What the addresses of a class's buffers are multiples of.
+pub const CLASS_ALIGN: u32 = 8;
+
+/// The size of a class in bytes.
+pub fn class_size(class: u32) -> u32
+    requires { class < CLASS_COUNT }
+    ensures { result ≡ size_of class }
+{
+    SIZE_TABLE[class as usize]
+}
+
 /// The number of the smallest size class that holds `size` bytes, as umem_alloc(3MALLOC) takes it. The
 /// sizes are this project's own.
 pub fn class_of(size: u64) -> Option<u32>
     ensures value { result ≡ class_for size }
     ensures least { IfSome result (IsLeastClass size) }
-    ensures none { IsNone result ↔ ((size ≡ 0) ⊎ (4096 < size)) }
+    ensures none { IsNone result ↔ ((size ≡ 0) ⊎ (MOST_CACHE_BYTES < size)) }
 {
     if size == 0 {
         return None;

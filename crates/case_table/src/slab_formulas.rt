@@ -1,12 +1,39 @@
-ghost use Rattle.std.specs.Prelude.{◌≡◌, ◌≤◌, ◌<◌, ◌+◌, ◌*◌, ◌^◌, ◌%◌};
+ghost use Rattle.std.specs.Prelude.{◌≡◌, ◌≤◌, ◌<◌, ◌+◌, ◌*◌, ◌^◌, ◌%◌, ◌↔◌, IsTrue};
 ghost use Rattle.case_table.specs.Geometry.{IsAlign, IsCacheShape, IsSlabGeometry, colour_of, geometry_of, magazine_of, pages_of, round_up, tag_of};
 
+use crate::limits::MOST_CACHE_BYTES;
 use crate::slab_quantities::Geometry;
+use umem_base::{PAGE_BYTES, pages_for};
 
-const PAGE: u32 = 4096;
+/// The bytes of the tag behind a guarded buffer: the redzone word, the bufctl word and bxstat.
+pub const TAG_BYTES: u32 = 24;
 
-/// The redzone word, the bufctl word and bxstat.
-const TAG: u32 = 24;
+/// What the addresses of a cache's buffers may be multiples of.
+pub const ALIGNS: [u64; 4] = [8, 16, 32, 64];
+
+/// The bytes of the largest chunk that counts as small.
+pub const SMALL_CHUNK: u32 = 128;
+
+/// The bytes of the largest chunk that counts as middling.
+pub const MIDDLING_CHUNK: u32 = 512;
+
+/// The rounds of a magazine for small chunks.
+pub const SMALL_CHUNK_ROUNDS: u32 = 15;
+
+/// The rounds of a magazine for middling chunks.
+pub const MIDDLING_CHUNK_ROUNDS: u32 = 7;
+
+/// The rounds of a magazine for all larger chunks.
+pub const LARGE_CHUNK_ROUNDS: u32 = 3;
+
+const PAGE: u32 = PAGE_BYTES as u32;
+
+/// Tells whether a cache may have buffers of so many bytes at multiples of `align`.
+pub fn is_cache_shape(size: u64, align: u64) -> bool
+    ensures { IsTrue result ↔ IsCacheShape size align }
+{
+    size > 0 && size <= u64::from(MOST_CACHE_BYTES) && ALIGNS.contains(&align)
+}
 
 fn round_up(number: u32, step: u32) -> u32
     requires some { 0 < step }
@@ -19,25 +46,25 @@ fn round_up(number: u32, step: u32) -> u32
 fn tag_size(guards: bool) -> u32
     ensures { result ≡ tag_of guards }
 {
-    if guards { TAG } else { 0 }
+    if guards { TAG_BYTES } else { 0 }
 }
 
 fn slab_pages(chunk: u32) -> u32
     requires { 8 * chunk < 2 ^ 32 }
     ensures { result ≡ pages_of chunk }
 {
-    (8 * chunk).div_ceil(PAGE).max(1)
+    pages_for(8 * u64::from(chunk)).max(1) as u32
 }
 
 fn magazine_size(chunk: u32) -> u32
     ensures { result ≡ magazine_of chunk }
 {
-    if chunk <= 128 {
-        15
-    } else if chunk <= 512 {
-        7
+    if chunk <= SMALL_CHUNK {
+        SMALL_CHUNK_ROUNDS
+    } else if chunk <= MIDDLING_CHUNK {
+        MIDDLING_CHUNK_ROUNDS
     } else {
-        3
+        LARGE_CHUNK_ROUNDS
     }
 }
 

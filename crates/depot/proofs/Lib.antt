@@ -1,3 +1,1 @@
-pub mod Drains
-pub mod Racks
-pub mod Trades
+pub mod DepotLemmas

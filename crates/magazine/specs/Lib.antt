@@ -1,3 +1,4 @@
-pub mod Found
-pub mod Pairs
-pub mod Racks
+pub mod CpuCache
+pub mod Magazine
+pub mod Need
+pub mod Room

@@ -1,8 +1,8 @@
-ghost use Rattle.std.specs.Prelude.{◌≡◌, ◌≤◌, ◌⊎◌, ◌↔◌, [], ◌∷◌, IfOk, IfSome, IsNone, MatchOption};
-ghost use Rattle.std.specs.List.Sorted.{IsPermutation};
-ghost use Rattle.slab_layer.specs.Layers.{after_puts};
-ghost use Rattle.magazine.specs.Found.{MatchNeed, MatchRoom};
-ghost use Rattle.magazine.specs.Pairs.{AreEmpty, AreFull, PutsExchanged, PutsLoaded, TakesExchanged, TakesLoaded, TakesPrevious, drained, loaded_of, previous_of, rounds_of};
+ghost use Rattle.std.specs.Prelude.{◌≡◌, ◌≤◌, ◌⊎◌, ◌↔◌, [], IfOk, IfSome, IsNone, MatchOption};
+ghost use Rattle.slab_layer.specs.Slabs.{AreSlabs, KeepsRounds, after_puts};
+ghost use Rattle.magazine.specs.CpuCache.{AreEmpty, AreFull, GainsRound, IsCpuCache, LosesRound, PutsExchanged, PutsLoaded, TakesExchanged, TakesLoaded, TakesPrevious, after_load, drain_order, loaded_magazine, previous_magazine};
+ghost use Rattle.magazine.specs.Need.{MatchNeed};
+ghost use Rattle.magazine.specs.Room.{MatchRoom};
 
 use crate::magazine::Magazine;
 use crate::need::Need;
@@ -13,9 +13,9 @@ use std::marker::Model;
 use std::mem;
 use umem_base::NoMemory;
 
-/// The two magazines that a CPU has for a cache (Bonwick and Adams 2001): the loaded one, and the one that
-/// was loaded before it. Contracts see their one size and the rounds of each, oldest first. Only `new` takes
-/// memory.
+/// What a CPU holds of a cache (Bonwick and Adams 2001): a loaded magazine, which serves its calls, and a
+/// previous one, which served them until then. Both are of one size. Contracts see the size and the rounds of
+/// each, oldest first. Only `new` takes memory.
 #[derive(Debug, Drop)]
 pub struct CpuCache {
     loaded: Magazine,
@@ -23,15 +23,15 @@ pub struct CpuCache {
 }
 
 impl Model for CpuCache {
-    ghost use Rattle.std.specs.Prelude.{◌≡◌, ◌≤◌, length};
-    ghost use Rattle.magazine.specs.Racks.{Racks};
+    ghost use Rattle.std.specs.Prelude.{◌≡◌};
+    ghost use Rattle.magazine.specs.CpuCache.{CpuCache, IsCpuCache};
 
-    ghost Value = { Racks };
+    ghost Value = { CpuCache };
 
     ghost view = { λ c. record { size = c.loaded.size; loaded = c.loaded.rounds; previous = c.previous.rounds } };
 
-    ghost invariant = { λ c. (c.previous.size ≡ c.loaded.size) × (length c.loaded.rounds ≤ c.loaded.size)
-        × (length c.previous.rounds ≤ c.loaded.size) };
+    ghost invariant = { λ c. (c.previous.size ≡ c.loaded.size)
+        × IsCpuCache (record { size = c.loaded.size; loaded = c.loaded.rounds; previous = c.previous.rounds }) };
 }
 
 impl CpuCache {
@@ -47,25 +47,28 @@ impl CpuCache {
     }
 
     pub fn loaded(&self) -> &Magazine
-        ensures { result.now ≡ loaded_of self.now }
+        ensures loaded { result.now ≡ loaded_magazine self.now }
+        ensures sound { IsCpuCache self.now }
     {
         &self.loaded
     }
 
     pub fn previous(&self) -> &Magazine
-        ensures { result.now ≡ previous_of self.now }
+        ensures previous { result.now ≡ previous_magazine self.now }
+        ensures sound { IsCpuCache self.now }
     {
         &self.previous
     }
 
-    /// Takes the newest round of the loaded magazine. Where that one is empty and the previous one is not,
-    /// the two are exchanged first.
+    /// A round for an allocation: the one that came last to the loaded magazine. If there is none, the
+    /// magazines change places first, where that helps.
     pub fn alloc(&mut self) -> Need
         ensures cases { MatchNeed result
             (λ round. TakesLoaded self.old self.new round ⊎ TakesExchanged self.old self.new round)
             (AreEmpty self.old × (self.new ≡ self.old)) }
         ensures want { (result ≡ Need.WantFull) ↔ AreEmpty self.old }
-        ensures holds { MatchNeed result (λ round. IsPermutation (rounds_of self.old) (round ∷ rounds_of self.new)) (self.new ≡ self.old) }
+        ensures holds { MatchNeed result (LosesRound self.old self.new) (self.new ≡ self.old) }
+        ensures sound { IsCpuCache self.new }
     {
         if self.loaded.is_empty() {
             if self.previous.is_empty() {
@@ -79,14 +82,15 @@ impl CpuCache {
         }
     }
 
-    /// Pushes a round on the loaded magazine. Where that one is full and the previous one is not, the two
-    /// are exchanged first. Where both are full the round comes back.
+    /// Keeps the round of a free in the loaded magazine. If there is no room, the magazines change places
+    /// first, where that helps; else the round comes back.
     pub fn free(&mut self, round: Round) -> Room
         ensures cases { MatchRoom result
             (PutsLoaded self.old self.new round ⊎ PutsExchanged self.old self.new round)
             (λ back. AreFull self.old × (back ≡ round) × (self.new ≡ self.old)) }
         ensures want { (result ≡ Room.WantEmpty round) ↔ AreFull self.old }
-        ensures holds { MatchRoom result (IsPermutation (round ∷ rounds_of self.old) (rounds_of self.new)) (λ _. self.new ≡ self.old) }
+        ensures holds { MatchRoom result (GainsRound self.old self.new round) (λ _. self.new ≡ self.old) }
+        ensures sound { IsCpuCache self.new }
     {
         if self.loaded.is_full() {
             if self.previous.is_full() {
@@ -100,44 +104,49 @@ impl CpuCache {
         }
     }
 
-    /// Loads a magazine where both are empty: the loaded one becomes the previous one, and the previous one
-    /// is handed back.
+    /// Gives a CPU without a round another magazine to serve its calls. Of its two, the one that did so is
+    /// kept, and the other one comes back.
     pub fn load_full(&mut self, full: Magazine) -> Magazine
         requires empty { AreEmpty self.old }
         requires size { full.size ≡ self.old.size }
-        ensures back { result ≡ previous_of self.old }
-        ensures loaded { self.new ≡ record self.old { loaded = full.rounds; previous = self.old.loaded } }
+        ensures back { result ≡ previous_magazine self.old }
+        ensures loaded { self.new ≡ after_load self.old full }
+        ensures sound { IsCpuCache self.new }
     {
         self.load(full)
     }
 
-    /// Loads a magazine where both are full: the loaded one becomes the previous one, and the previous one
-    /// is handed back.
+    /// Gives a CPU without room for a round another magazine to serve its calls. Of its two, the one that did
+    /// so is kept, and the other one comes back.
     pub fn load_empty(&mut self, empty: Magazine) -> Magazine
         requires full { AreFull self.old }
         requires size { empty.size ≡ self.old.size }
-        ensures back { result ≡ previous_of self.old }
-        ensures loaded { self.new ≡ record self.old { loaded = empty.rounds; previous = self.old.loaded } }
+        ensures back { result ≡ previous_magazine self.old }
+        ensures loaded { self.new ≡ after_load self.old empty }
+        ensures sound { IsCpuCache self.new }
     {
         self.load(empty)
     }
 
     fn load(&mut self, magazine: Magazine) -> Magazine
         requires { magazine.size ≡ self.old.size }
-        ensures back { result ≡ previous_of self.old }
-        ensures loaded { self.new ≡ record self.old { loaded = magazine.rounds; previous = self.old.loaded } }
+        ensures back { result ≡ previous_magazine self.old }
+        ensures loaded { self.new ≡ after_load self.old magazine }
+        ensures sound { IsCpuCache self.new }
     {
         let loaded = mem::replace(&mut self.loaded, magazine);
         mem::replace(&mut self.previous, loaded)
     }
 
-    /// Takes the newest round of the loaded magazine, else of the previous one. Nothing is exchanged.
+    /// A round from wherever there is one, with the magazines left in their places: the loaded one is looked
+    /// at first, and the round that came last is given.
     pub fn take_any(&mut self) -> Option<Round>
         ensures cases { MatchOption result
             (AreEmpty self.old × (self.new ≡ self.old))
             (λ round. TakesLoaded self.old self.new round ⊎ TakesPrevious self.old self.new round) }
         ensures none { IsNone result ↔ AreEmpty self.old }
-        ensures holds { IfSome result (λ round. IsPermutation (rounds_of self.old) (round ∷ rounds_of self.new)) }
+        ensures holds { IfSome result (LosesRound self.old self.new) }
+        ensures sound { IsCpuCache self.new }
     {
         if let Some(round) = self.loaded.pop() {
             return Some(round);
@@ -149,8 +158,14 @@ impl CpuCache {
     /// that is handed back is given up.
     pub fn drain_into(&mut self, slabs: &mut Slabs)
         ensures emptied { self.new ≡ record self.old { loaded = []; previous = [] } }
-        ensures put { slabs.new ≡ record slabs.old { slabs = after_puts slabs.old.slabs (drained self.old) } }
+
+        // The slabs afterwards.
+        ensures put { slabs.new ≡ record slabs.old { slabs = after_puts slabs.old.slabs (drain_order self.old) } }
+        ensures holds { KeepsRounds slabs.old.slabs slabs.new.slabs (drain_order self.old) }
+        ensures sound { AreSlabs slabs.new.slabs }
     {
+        // Says that the slabs are sound, also where there is nothing to put.
+        let _ = slabs.cache();
         self.loaded.drain_into(slabs);
         self.previous.drain_into(slabs);
     }

@@ -1,6 +1,6 @@
 ghost use Rattle.std.specs.Prelude.{◌≡◌, ◌≤◌, ◌↔◌, [], ◌∷◌, ◌++◌, length, reverse, IfErr, IfOk, IsErr, IsNone, IsTrue, MatchOption, OnErr, OnOk};
-ghost use Rattle.slab_layer.specs.Layers.{after_puts};
-ghost use Rattle.magazine.specs.Pairs.{IsEmpty, IsFull};
+ghost use Rattle.slab_layer.specs.Slabs.{AreSlabs, KeepsRounds, after_puts};
+ghost use Rattle.magazine.specs.Magazine.{IsEmpty, IsFull, IsMagazine};
 
 use slab_layer::{Round, Rounds, Slabs};
 use std::alloc::Global;
@@ -17,9 +17,9 @@ pub struct Magazine {
 
 impl Model for Magazine {
     ghost use Rattle.std.specs.Prelude.{◌≡◌, ◌+◌, ◌≤◌, length};
-    ghost use Rattle.magazine.specs.Racks.{Rack};
+    ghost use Rattle.magazine.specs.Magazine.{Magazine};
 
-    ghost Value = { Rack };
+    ghost Value = { Magazine };
 
     ghost view = { λ m. record { size = m.size; rounds = m.rounds.items } };
 
@@ -48,7 +48,7 @@ impl Magazine {
     /// The rounds, oldest first.
     pub fn as_slice(&self) -> &[Round]
         ensures rounds { result.now ≡ self.now.rounds }
-        ensures fit { length self.now.rounds ≤ self.now.size }
+        ensures sound { IsMagazine self.now }
     {
         self.rounds.as_slice()
     }
@@ -91,8 +91,14 @@ impl Magazine {
     /// Puts every round into the slabs, the newest first. One that is handed back is given up.
     pub fn drain_into(&mut self, slabs: &mut Slabs)
         ensures emptied { self.new ≡ record self.old { rounds = [] } }
+
+        // The slabs afterwards.
         ensures put { slabs.new ≡ record slabs.old { slabs = after_puts slabs.old.slabs (reverse self.old.rounds) } }
+        ensures holds { KeepsRounds slabs.old.slabs slabs.new.slabs (reverse self.old.rounds) }
+        ensures sound { AreSlabs slabs.new.slabs }
     {
+        // Says that the slabs are sound, also where there is nothing to put.
+        let _ = slabs.cache();
         while let Some(round) = self.pop() {
             let _given_up = slabs.put(round);
         }

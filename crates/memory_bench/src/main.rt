@@ -1,5 +1,5 @@
-//! What the benches time: words stored and loaded over many runs, spans taken and given back, and rounds
-//! put into many slabs and taken again.
+//! What the benches time: words stored and loaded over many runs, large runs mapped and unmapped, spans taken
+//! and given back, and rounds put into many slabs and taken again.
 #![tactic(auto)]
 
 use addr_space::Space;
@@ -7,13 +7,16 @@ use slab_layer::{Round, Slabs, rounds_from};
 use span_arena::Arena;
 use std::alloc::Global;
 use std::{env, io};
-use umem_base::NoMemory;
+use umem_base::{ARENA_BASE, NoMemory, PAGE_BYTES};
 
 const RUNS: u64 = 1024;
 
-const PAGE_BYTES: u64 = 4096;
-
 const WORDS: u64 = 1_000_000;
+
+/// How often a run of `RUNS` pages is mapped by the word `maps`, and by `few_maps`.
+const MAPS: u64 = 32_768;
+
+const FEW_MAPS: u64 = 256;
 
 const SPANS: u64 = 100_000;
 
@@ -28,6 +31,8 @@ fn main(rt: HostRuntime) -> io::Result<()> {
     for word in env::args(&rt)?.skip(1) {
         let done = match word.as_str() {
             "space" => store_and_load(rt.alloc()),
+            "maps" => map_and_unmap(rt.alloc(), MAPS),
+            "few_maps" => map_and_unmap(rt.alloc(), FEW_MAPS),
             "arena" => take_and_give_back(rt.alloc()),
             "slabs" => put_and_take(rt.alloc()).unwrap_or(0),
             _ => 0,
@@ -51,6 +56,22 @@ fn store_and_load(alloc: Global) -> u64 {
         if space.store_word(at, word).is_ok() && space.load_word(at) == Ok(word) {
             right += 1;
         }
+    }
+    right
+}
+
+/// Maps a run of pages and takes it away again, so many times, and counts the runs that began with a zero.
+fn map_and_unmap(alloc: Global, times: u64) -> u64 {
+    let mut space = Space::new(alloc);
+    let mut right = 0;
+    for _time in 0..times {
+        let Ok(()) = space.map(ARENA_BASE, RUNS) else {
+            return right;
+        };
+        if space.load_word(ARENA_BASE) == Ok(0) {
+            right += 1;
+        }
+        space.unmap(ARENA_BASE, RUNS);
     }
     right
 }

@@ -1,48 +1,98 @@
--- Which histories answer a script.
-use Rattle.std.specs.Prelude.{◌≡◌, ℕ, ⊤, List, [], ◌∷◌, ◌++◌, take, Some, filter, map, ◌==◌}
+-- Which histories answer a script: legal ones of its calls, in which each run of pages is the lowest that fits and
+-- inner entries stand in their order directly before the call that caused them.
+use Rattle.std.specs.Prelude.{◌≡◌, ℕ, ◌+◌, ◌<◌, ◌⊎◌, Bool, List, Option, Some, None, Contains, IsTrue, take, ⊤}
 use Rattle.std.specs.List.{slice_get}
-use Rattle.umem_base.specs.Pages.{pages_for, IsLowestRun}
+use Rattle.umem_base.specs.Pages.{IsLowestRun, pages_for}
+use Rattle.case_table.specs.Sizes.{class_for}
 use Rattle.script.specs.declared.operation.Op.{Op}
-use Rattle.script.specs.declared.operation.Op.TheVariants.{Alloc}
-use Rattle.script.specs.Plan.{Call, Turn, Plan}
+use Rattle.script.specs.declared.operation.Op.TheVariants.{Alloc, Zalloc, Free, CacheAlloc, CacheFree, Copy, Clear, Store, Link, Load, Reap}
+use Rattle.script.specs.Plan.{Plan}
+use Rattle.plain_heap.specs.declared.entry.Body.{Body}
+use Rattle.plain_heap.specs.declared.entry.Body.TheVariants.{Call, Grow, Shrink}
+use Rattle.plain_heap.specs.declared.entry.Entry.{Entry}
 use Rattle.plain_heap.specs.declared.reply.Reply.{Reply}
 use Rattle.plain_heap.specs.declared.reply.Reply.TheVariants as reply
-use Rattle.plain_heap.specs.declared.entry.Body.{Body}
-use Rattle.plain_heap.specs.declared.entry.Body.TheVariants as body
-use Rattle.plain_heap.specs.declared.entry.Entry.{Entry}
-use Rattle.plain_heap.specs.Meaning.{State, state_of, IsFreePage}
-use Rattle.plain_heap.specs.Replies.{IsLegal}
+use Rattle.plain_heap.specs.Setting.{Setting, geometry_in}
+use Rattle.plain_heap.specs.State.{HeapSlab, IsChunkOf, IsFreePage, State, is_live, state_of}
+use Rattle.plain_heap.specs.Legal.{IsLegal}
+use Rattle.plain_heap.specs.Calls.{Follows, IsFinished}
 
-abbrev pub call_in : Body → Call
-call_in (body.Call op stack answer) = record { op = op; frames = stack.items }
+-- ---- the lowest runs
 
--- the calls that a thread made, in their order
-abbrev pub calls_of : ℕ → List Entry → List Call
-calls_of thread entries = map (λ entry. call_in entry.body) (filter (λ entry. entry.thread == thread) entries)
+-- where no class serves a size, its pages were handed out at the lowest run that fits
+abbrev pub IsLowestRequest : Setting → State → ℕ → Option ℕ → Reply → Type 0
+IsLowestRequest setting state size None (reply.At address report) =
+    IsLowestRun (IsFreePage setting state) (pages_for size) address
+IsLowestRequest setting state size None other = ⊤
+IsLowestRequest setting state size (Some class) answer = ⊤
 
--- the calls that a thread is to make in a phase, in their order
-abbrev pub turns_of_thread : ℕ → List Turn → List Call
-turns_of_thread thread turns = map (λ turn. turn.call) (filter (λ turn. turn.thread == thread) turns)
+-- ---- slabs at a reap
 
--- The entries of each phase stand before those of the next, and in each phase every thread makes its calls, each once.
-abbrev pub FollowsPhases : List (List Turn) → List Entry → Type 0
-FollowsPhases [] entries = entries ≡ []
-FollowsPhases (phase ∷ phases) entries =
-    (now : List Entry) × (later : List Entry) × (entries ≡ now ++ later) × ((thread : ℕ) → calls_of thread now ≡ turns_of_thread thread phase) × FollowsPhases phases later
+-- some chunk of the slab lives
+pub record IsInUse (setting : Setting) (state : State) (slab : HeapSlab) : Type 0 where
+  pub address : ℕ
+  pub chunk : IsChunkOf setting slab address
+  pub live : IsTrue (is_live state address)
 
--- where whole pages were handed out, they were the lowest run that fits
-abbrev pub TakesLowestAt : State → Op → Reply → Type 0
-TakesLowestAt state (Alloc slot size) (reply.At address report) = IsLowestRun (IsFreePage state) (pages_for size) address
-TakesLowestAt state op other = ⊤
+-- each slab that stands has a live chunk
+abbrev pub AreAllInUse : Setting → State → Type 0
+AreAllInUse setting state = (slab : HeapSlab) → Contains state.slabs slab → IsInUse setting state slab
 
-abbrev pub TakesLowest : State → Body → Type 0
-TakesLowest state (body.Call op stack answer) = TakesLowestAt state op answer
+-- ---- the order of inner entries
 
--- each entry that handed out whole pages took the lowest run that fits after the entries before it
-abbrev pub AreLowest : List Entry → Type 0
-AreLowest entries = (n : ℕ) (entry : Entry) → slice_get entries n ≡ Some entry → TakesLowest (state_of (take n entries)) entry.body
+-- a slab of a cache at a base stands before what an entry gives back: by rising cache, and then by rising base
+abbrev pub StandsBefore : ℕ → ℕ → Body → Type 0
+StandsBefore cache base (Shrink next_cache next_base) =
+    (cache < next_cache) ⊎ ((cache ≡ next_cache) × (base < next_base))
+StandsBefore cache base (Grow next_cache next_base) = ⊥
+StandsBefore cache base (Call op frames answer) = ⊤
 
-pub record Answers (plan : Plan) (entries : List Entry) : Type 0 where
-  pub legal : IsLegal entries
-  pub calls : FollowsPhases plan.phases entries
-  pub lowest : AreLowest entries
+-- the very next entry is one of the thread
+abbrev pub IsByThread : ℕ → Option Entry → Type 0
+IsByThread thread None = ⊥
+IsByThread thread (Some next) = next.thread ≡ thread
+
+-- a shrink stands before the very next entry, in their order
+abbrev pub IsInOrder : ℕ → ℕ → Option Entry → Type 0
+IsInOrder cache base None = ⊥
+IsInOrder cache base (Some next) = StandsBefore cache base next.body
+
+-- a call takes the lowest run, and a reap leaves no slab without a live chunk
+abbrev pub IsTidyCall : Setting → State → Op → Reply → Type 0
+IsTidyCall setting state (Alloc slot size) answer = IsLowestRequest setting state size (class_for size) answer
+IsTidyCall setting state (Zalloc slot size) answer = IsLowestRequest setting state size (class_for size) answer
+IsTidyCall setting state (Free slot size) answer = ⊤
+IsTidyCall setting state (CacheAlloc slot cache) answer = ⊤
+IsTidyCall setting state (CacheFree slot cache) answer = ⊤
+IsTidyCall setting state (Copy to from) answer = ⊤
+IsTidyCall setting state (Clear slot) answer = ⊤
+IsTidyCall setting state (Store slot offset stored) answer = ⊤
+IsTidyCall setting state (Link slot offset value) answer = ⊤
+IsTidyCall setting state (Load to slot offset) answer = ⊤
+IsTidyCall setting state Reap answer = AreAllInUse setting state
+
+-- The body of an entry of a thread is tidy, by what the entries before it left and the very next entry: a grow takes
+-- the lowest run and stands directly before its allocation, and a shrink stands directly before the next shrink, in
+-- their order, or before the reap.
+abbrev pub IsTidyBody : Setting → State → ℕ → Body → Option Entry → Type 0
+IsTidyBody setting state thread (Call op frames answer) next = IsTidyCall setting state op answer
+IsTidyBody setting state thread (Grow cache base) next =
+    IsLowestRun (IsFreePage setting state) (geometry_in setting cache).pages base × IsByThread thread next
+IsTidyBody setting state thread (Shrink cache base) next = IsByThread thread next × IsInOrder cache base next
+
+-- each entry is tidy
+abbrev pub AreTidy : Setting → List Entry → Type 0
+AreTidy setting entries =
+    (n : ℕ) (entry : Entry) → slice_get entries n ≡ Some entry
+    → IsTidyBody setting (state_of setting (take n entries)) entry.thread entry.body (slice_get entries (n + 1))
+
+-- what is fixed for the histories of a plan
+abbrev pub setting_for : Bool → Plan → Setting
+setting_for guards plan = record { header = plan.header; guards = guards }
+
+-- a legal and tidy history of the plan's calls, each made in its turn
+pub record Answers (guards : Bool) (plan : Plan) (entries : List Entry) : Type 0 where
+  pub legal : IsLegal (setting_for guards plan) entries
+  pub follows : Follows plan entries
+  pub finished : IsFinished plan entries
+  pub tidy : AreTidy (setting_for guards plan) entries

@@ -1,27 +1,29 @@
-ghost use Rattle.plain_heap.specs.Numbered.{IsNumbered};
+ghost use Rattle.plain_heap.specs.History.{IsNumbered};
 ghost use Rattle.std.specs.Prelude.{◌≡◌, ◌+◌, ◌<◌, [], ◌∷◌, ◌++◌, length, IfOk, MatchOption};
 
 use crate::entry::Entry;
-use std::alloc::Global;
+use std::alloc::{AllocError, Global};
 use std::marker::Model;
 use umem_base::{BoundedVec, NoMemory};
 
 /// Entries numbered from 0, in the order of their commits, with room that was taken at the start.
 /// Contracts see the entries and the spare.
-#[derive(Debug, Drop)]
+#[derive(Debug, Drop, PartialEq, Eq)]
 pub struct History {
     entries: BoundedVec<Entry>,
 }
 
 impl Model for History {
-    ghost use Rattle.umem_base.specs.Bounded.{Bounded};
+    ghost use Rattle.umem_base.specs.BoundedVec.{BoundedVec};
     ghost use Rattle.plain_heap.specs.declared.entry.Entry.{Entry as EntryData};
 
-    ghost Value = { Bounded EntryData };
+    ghost Value = { BoundedVec EntryData };
 
-    ghost use Rattle.plain_heap.specs.Numbered.{IsNumbered};
+    ghost use Rattle.plain_heap.specs.History.{IsNumbered};
 
     ghost view = { λ h. h.entries };
+
+    ghost inverse = { λ entries. record { entries = entries } };
 
     ghost invariant = { λ h. IsNumbered 0 h.entries.items };
 }
@@ -47,7 +49,8 @@ impl History {
 
     /// Takes the last entry, and its room is spare again.
     pub fn pop(&mut self) -> Option<Entry>
-        ensures items { MatchOption result (self.new ≡ self.old) (λ entry. self.old.items ≡ self.new.items ++ entry ∷ []) }
+        ensures items { MatchOption result (self.new ≡ self.old)
+            (λ entry. self.old.items ≡ self.new.items ++ entry ∷ []) }
         ensures empty { MatchOption result (self.old.items ≡ []) (λ _. self.new.spare ≡ self.old.spare + 1) }
     {
         self.entries.pop()
@@ -58,5 +61,16 @@ impl History {
         ensures numbered { IsNumbered 0 result.now }
     {
         self.entries.as_slice()
+    }
+}
+
+/// The clone has the same entries and as much spare.
+impl Clone for History {
+    ghost is_clone = { λ v w. w ≡ v };
+
+    fn clone(&self) -> Result<Self, AllocError> {
+        Ok(History {
+            entries: self.entries.clone()?,
+        })
     }
 }

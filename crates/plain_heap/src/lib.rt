@@ -5,7 +5,9 @@
 mod entry;
 mod held;
 mod history;
+pub mod laws;
 mod live;
+pub mod live_laws;
 mod reply;
 mod text;
 

@@ -1,18 +1,17 @@
 ghost use Rattle.std.specs.Prelude.{◌≡◌, ◌+◌, ◌<◌, IfOk, Some, None, IsSome};
 ghost use Rattle.std.specs.FinMap as map;
-ghost use Rattle.plain_heap.specs.Book.{live_at, judged, IsFree};
-ghost use Rattle.plain_heap.specs.Live.{reply_to_live};
+ghost use Rattle.plain_heap.specs.Frees.{IsFreeOp, judgement, refusal_of};
+ghost use Rattle.plain_heap.specs.Live.{live_at};
+ghost use Rattle.plain_heap.specs.Replies.{refusal_by_cache, refusal_by_size};
 
 use crate::held::Held;
 use crate::reply::Reply;
+use case_table::CLASS_COUNT;
 use script::Op;
 use std::alloc::Global;
 use std::collections::HashMap;
 use std::marker::Model;
 use umem_base::NoMemory;
-
-// Declared caches are numbered behind the size classes.
-const SIZE_CLASSES: u32 = 32;
 
 /// The buffers that were handed out, by their addresses, with room that was taken at the start. Contracts
 /// see, for each address that was ever handed out, what lives there, if anything does; and the spare, the
@@ -27,11 +26,11 @@ impl Model for Live {
     ghost use Rattle.std.specs.Prelude.{◌≤◌};
     ghost use Rattle.std.specs.FinMap as map;
     ghost use Rattle.std.specs.HashMap as hash_map;
-    ghost use Rattle.plain_heap.specs.Book.{Book, book_code};
+    ghost use Rattle.plain_heap.specs.Live.{Live, live_code};
 
-    ghost Value = { Book };
+    ghost Value = { Live };
 
-    ghost coded = { book_code };
+    ghost coded = { live_code };
 
     ghost view = { λ l. record { buffers = map.from_entries l.buffers.entries; spare = l.spare } };
 
@@ -53,7 +52,8 @@ impl Live {
     pub fn allocated(&mut self, address: u64, size: u32, cache: Option<u32>)
         requires room { 0 < self.old.spare }
         requires fresh { live_at self.old.buffers address ≡ None }
-        ensures buffers { self.new.buffers ≡ map.insert self.old.buffers address (Some (record { size = size; cache = cache })) }
+        ensures buffers { self.new.buffers
+            ≡ map.insert self.old.buffers address (Some (record { size = size; cache = cache })) }
         ensures spare { self.new.spare + 1 ≡ self.old.spare }
     {
         let added: Result<_, _> = self.buffers.insert(address, Some(Held { size, cache }));
@@ -86,35 +86,58 @@ impl Live {
         self.buffers.get(&address).copied()
     }
 
-    /// The answer to a free, from the slot's word and whether the chunk there has a finding.
+    /// The answer to a `free` or a `cache_free` of a slot's word, by whether the chunk there has a finding: the first
+    /// of umem_free(3MALLOC)'s misuses that applies. Nothing changes.
     pub fn judge(&self, op: &Op, word: u64, finding: bool) -> Reply
-        requires { IsFree op.now }
-        ensures { result ≡ judged self.now.buffers op.now word finding }
+        requires { IsFreeOp op.now }
+        ensures { result ≡ judgement self.now.buffers op.now word finding }
     {
-        let Op::Free { size, .. } = op else {
-            unreachable!()
-        };
         if word == 0 {
             return Reply::Null;
         }
-        match self.buffer(word) {
-            None => Reply::BadAddr,
-            Some(None) => Reply::Dup,
-            Some(Some(held)) => reply_to_live(&held, *size, finding),
+        let held = match self.buffer(word) {
+            None => return Reply::BadAddr,
+            Some(None) => return Reply::Dup,
+            Some(Some(held)) => held,
+        };
+        match refusal(op, &held) {
+            Some(reply) => reply,
+            None if finding => Reply::Redzone,
+            None => Reply::Ok,
         }
     }
 }
 
-fn reply_to_live(held: &Held, size: u32, finding: bool) -> Reply
-    ensures { result ≡ reply_to_live held.now size finding }
+// Why a free does not give the live buffer back, if it does not.
+fn refusal(op: &Op, held: &Held) -> Option<Reply>
+    requires { IsFreeOp op.now }
+    ensures { result ≡ refusal_of op.now held.now }
 {
-    if held.cache.is_some_and(|cache| cache >= SIZE_CLASSES) {
-        Reply::BadCache
+    match op {
+        Op::Free { size, .. } => refusal_by_size(*size, held),
+        Op::CacheFree { cache, .. } => refusal_by_cache(*cache, held),
+        _ => unreachable!(),
+    }
+}
+
+fn refusal_by_size(size: u32, held: &Held) -> Option<Reply>
+    ensures { result ≡ refusal_by_size size held.now }
+{
+    if held.cache.is_some_and(|cache| cache >= CLASS_COUNT) {
+        Some(Reply::BadCache)
     } else if held.size != size {
-        Reply::BadSize
-    } else if finding {
-        Reply::Redzone
+        Some(Reply::BadSize)
     } else {
-        Reply::Ok
+        None
+    }
+}
+
+fn refusal_by_cache(cache: u32, held: &Held) -> Option<Reply>
+    ensures { result ≡ refusal_by_cache cache held.now }
+{
+    if held.cache != Some(cache) {
+        Some(Reply::BadCache)
+    } else {
+        None
     }
 }

@@ -1,2 +1,11 @@
+pub mod Fields
+pub mod Generated
 pub mod Grammar
+pub mod Limits
+pub mod Lines
+pub mod OpWords
 pub mod Plan
+pub mod PlanText
+pub mod Reading
+pub mod ReasonWords
+pub mod Rules

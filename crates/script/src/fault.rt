@@ -1,28 +1,10 @@
-ghost use Rattle.std.specs.Prelude.{◌≡◌};
-ghost use Rattle.script.specs.declared.fault.ScriptFault.TheVariants.{NoMemory};
-
-use std::alloc::{AllocError, AllocFailed};
+use crate::reasons::Reason;
 
 /// Why bytes were not read as a script.
 #[derive(Clone, Copy, Debug, PartialEq, Eq)]
 pub enum ScriptFault {
-    /// The bytes spell no script.
-    Bad,
+    /// The first bad line, counted from 1, and its reason. A file that is too long is line 0, and one
+    /// without a header is told at the line behind its last.
+    Bad { line: u32, reason: Reason },
     NoMemory,
-}
-
-impl From<AllocError> for ScriptFault {
-    ghost from_gives = { λ _ e. e ≡ NoMemory };
-
-    fn from(_: AllocError) -> ScriptFault {
-        ScriptFault::NoMemory
-    }
-}
-
-impl<T: Drop> From<AllocFailed<T>> for ScriptFault {
-    ghost from_gives = { λ _ e. e ≡ NoMemory };
-
-    fn from(_: AllocFailed<T>) -> ScriptFault {
-        ScriptFault::NoMemory
-    }
 }

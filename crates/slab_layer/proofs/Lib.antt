@@ -1,6 +1,4 @@
 pub mod Lists
-pub mod Numbers
-pub mod SlabLists
-pub mod Changes
-pub mod Lowest
-pub mod SlabChanges
+pub mod RoundsLemmas
+pub mod SlabLemmas
+pub mod SlabsLemmas

@@ -1,2 +1,3 @@
-pub mod Listed
-pub mod Layers
+pub mod Rounds
+pub mod Slab
+pub mod Slabs

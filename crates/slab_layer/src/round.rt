@@ -1,6 +1,6 @@
 ghost use Rattle.std.specs.Prelude.{◌≡◌, ◌+◌, ◌^◌, ◌≤◌, IfOk, length};
 ghost use Rattle.std.specs.List.{range_with_len};
-ghost use Rattle.slab_layer.specs.Layers.{AreConsecutive};
+ghost use Rattle.slab_layer.specs.Rounds.{AreConsecutive};
 
 use std::alloc::Global;
 use std::marker::Model;

@@ -1,6 +1,8 @@
 ghost use Rattle.std.specs.Prelude.{◌≡◌, ◌+◌, ◌^◌, ◌<◌, ◌≤◌, ◌↔◌, [], ◌∷◌, ◌⊎◌, length, Contains, IsTrue, IfErr, IsErr, MatchOption, OnOk, OnErr};
 ghost use Rattle.std.specs.List.Sorted.{IsStrictlyIncreasing};
-ghost use Rattle.slab_layer.specs.Layers.{AreConsecutive, GoesTo, HasChunk, IsComplete, IsSlab, clash, has_chunk, slab_of, with_number};
+ghost use Rattle.umem_base.specs.Ordered.{SplitsBy};
+ghost use Rattle.slab_layer.specs.Rounds.{AreConsecutive};
+ghost use Rattle.slab_layer.specs.Slab.{HasChunk, IsComplete, IsSlab, clashes, has_chunk, slab_of, with_chunk};
 
 use crate::empty_slab::EmptySlab;
 use crate::round::{Round, Rounds};
@@ -18,10 +20,9 @@ pub struct Slab {
 
 impl Model for Slab {
     ghost use Rattle.std.specs.Prelude.{◌+◌, ◌≤◌, length};
-    ghost use Rattle.slab_layer.specs.Listed.{Listed};
-    ghost use Rattle.slab_layer.specs.Layers.{IsSlab};
+    ghost use Rattle.slab_layer.specs.Slab.{IsSlab, Slab};
 
-    ghost Value = { Listed };
+    ghost Value = { Slab };
 
     ghost view = { λ s. record { base = s.base; first = s.first; count = s.count; list = s.list.items } };
 
@@ -32,7 +33,8 @@ impl Model for Slab {
 /// Where a round goes in a list, or `None` where one with its number stands there.
 fn place_for(rounds: &[Round], chunk: u32) -> Option<usize>
     requires { IsStrictlyIncreasing rounds.now }
-    ensures { MatchOption result (Contains rounds.now chunk) (GoesTo rounds.now chunk) }
+    ensures { MatchOption result (Contains rounds.now chunk)
+        (SplitsBy (λ other. other < chunk) (λ other. chunk < other) rounds.now) }
 {
     rounds.binary_search_by_key(&chunk, Round::chunk).err()
 }
@@ -89,7 +91,7 @@ impl Slab {
 
     /// Whether both begin at one base, or have a chunk in common.
     pub fn clashes(&self, other: &Slab) -> bool
-        ensures { result ≡ clash self.now other.now }
+        ensures { result ≡ clashes self.now other.now }
     {
         self.base == other.base
             || (u64::from(self.first) < other.end() && u64::from(other.first) < self.end())
@@ -115,8 +117,10 @@ impl Slab {
 
     /// Puts a round into the list, or hands it back where it is of no chunk of this slab or stands there.
     pub fn put(&mut self, round: Round) -> Result<(), Round>
-        ensures ok { OnOk result (HasChunk round self.old × (Contains self.old.list round → ⊥) × (self.new ≡ record self.old { list = with_number self.old.list round })) }
-        ensures refused { IsErr result ↔ ((HasChunk round self.old → ⊥) ⊎ Contains self.old.list round) }
+        ensures own { OnOk result (HasChunk round self.old) }
+        ensures missing { OnOk result (¬ Contains self.old.list round) }
+        ensures ok { OnOk result (self.new ≡ with_chunk round self.old) }
+        ensures refused { IsErr result ↔ ((¬ HasChunk round self.old) ⊎ Contains self.old.list round) }
         ensures back { IfErr result (λ back. back ≡ round) }
         ensures err { OnErr result (self.new ≡ self.old) }
         ensures sound { IsSlab self.new }

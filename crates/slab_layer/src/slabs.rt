@@ -1,7 +1,8 @@
-ghost use Rattle.std.specs.Prelude.{◌≡◌, ◌≢◌, ◌+◌, ◌<◌, ◌≤◌, ◌↔◌, ◌⊎◌, [], ◌∷◌, ◌++◌, max, length, All, Any, Contains, IsNone, IsErr, IfErr, IfSome, MatchOption, OnOk, OnErr};
+ghost use Rattle.std.specs.Prelude.{◌≡◌, ◌≢◌, ◌+◌, ◌<◌, ◌≤◌, ◌↔◌, [], ◌∷◌, ◌++◌, max, length, All, IsNone, IsErr, IfErr, IfSome, MatchOption, OnOk, OnErr};
 ghost use Rattle.std.specs.List.Sorted.{IsPermutation};
-ghost use Rattle.slab_layer.specs.Listed.{Layer};
-ghost use Rattle.slab_layer.specs.Layers.{AreConsecutive, AreSlabs, IsComplete, IsForeign, IsLowestComplete, IsLowestRound, IsMissing, after_put, rounds_of, slab_of, with_round, with_slab, without_base, without_clashes, without_round};
+ghost use Rattle.slab_layer.specs.Rounds.{AreConsecutive};
+ghost use Rattle.slab_layer.specs.Slab.{IsComplete, slab_of};
+ghost use Rattle.slab_layer.specs.Slabs.{AddsRounds, AreSlabs, HasListAt, HasLowestComplete, IsLowestRound, IsMissing, IsRefused, after_put, listed_rounds, with_round, with_slab, without_round, without_slab_at};
 
 use crate::empty_slab::EmptySlab;
 use crate::round::{Round, Rounds};
@@ -24,10 +25,9 @@ pub struct Slabs {
 
 impl Model for Slabs {
     ghost use Rattle.std.specs.Prelude.{◌<◌, vec_len, vec_capacity};
-    ghost use Rattle.slab_layer.specs.Listed.{Layer};
-    ghost use Rattle.slab_layer.specs.Layers.{AreSlabs};
+    ghost use Rattle.slab_layer.specs.Slabs.{AreSlabs, Slabs};
 
-    ghost Value = { Layer };
+    ghost Value = { Slabs };
 
     ghost view = { λ s. record { cache = s.cache; spare = s.spare; slabs = s.slabs.items } };
 
@@ -48,7 +48,8 @@ impl Slabs {
 
     /// The number of the cache.
     pub fn cache(&self) -> u32
-        ensures { result ≡ self.now.cache }
+        ensures cache { result ≡ self.now.cache }
+        ensures sound { AreSlabs self.now.slabs }
     {
         self.cache
     }
@@ -69,10 +70,14 @@ impl Slabs {
         requires some { 0 < length rounds.items }
         requires room { length rounds.items ≤ self.old.spare }
         requires rising { AreConsecutive rounds.items }
-        ensures value { self.new ≡ record self.old { spare = 0; slabs = with_slab self.old.slabs (slab_of base rounds.items) } }
-        ensures holds { IsPermutation (rounds.items ++ rounds_of (without_clashes self.old.slabs (slab_of base rounds.items))) (rounds_of self.new.slabs) }
+        ensures value { self.new ≡ record self.old {
+          spare = 0;
+          slabs = with_slab self.old.slabs (slab_of base rounds.items);
+        } }
+        ensures holds { AddsRounds self.old.slabs self.new.slabs (slab_of base rounds.items) }
         ensures sound { AreSlabs self.new.slabs }
     {
+        // Shows that the spare, and so the number of rounds, fits 32 bits.
         let _ = &self.spare;
         let new = Slab::new(base, rounds);
         self.slabs.retain(|slab| !slab.clashes(&new));
@@ -86,11 +91,12 @@ impl Slabs {
     pub fn take(&mut self) -> Option<Round>
         // Which round it is.
         ensures lowest { IfSome result (IsLowestRound self.old.slabs) }
-        ensures none { IsNone result ↔ (rounds_of self.old.slabs ≡ []) }
+        ensures none { IsNone result ↔ (listed_rounds self.old.slabs ≡ []) }
 
         // The lists afterwards.
-        ensures taken { MatchOption result (self.new ≡ self.old) (λ round. self.new ≡ record self.old { slabs = without_round self.old.slabs round }) }
-        ensures holds { IfSome result (λ round. rounds_of self.old.slabs ≡ round ∷ rounds_of self.new.slabs) }
+        ensures taken { MatchOption result (self.new ≡ self.old)
+            (λ round. self.new ≡ record self.old { slabs = without_round self.old.slabs round }) }
+        ensures holds { IfSome result (λ round. listed_rounds self.old.slabs ≡ round ∷ listed_rounds self.new.slabs) }
         ensures sound { AreSlabs self.new.slabs }
     {
         let index = first_with_rounds(&self.slabs)?;
@@ -102,14 +108,15 @@ impl Slabs {
     /// stands in a list already; then nothing changed. It takes no memory.
     pub fn put(&mut self, round: Round) -> Result<(), Round>
         // Which rounds are handed back.
-        ensures refused { IsErr result ↔ (IsForeign self.old.slabs round ⊎ Contains (rounds_of self.old.slabs) round) }
+        ensures refused { IsErr result ↔ IsRefused self.old.slabs round }
         ensures missing { OnOk result (IsMissing self.old.slabs round) }
         ensures back { IfErr result (λ back. back ≡ round) }
 
         // The lists afterwards.
         ensures ok { OnOk result (self.new ≡ record self.old { slabs = with_round self.old.slabs round }) }
         ensures after { self.new ≡ record self.old { slabs = after_put self.old.slabs round } }
-        ensures holds { OnOk result (IsPermutation (round ∷ rounds_of self.old.slabs) (rounds_of self.new.slabs)) }
+        ensures holds { OnOk result
+            (IsPermutation (round ∷ listed_rounds self.old.slabs) (listed_rounds self.new.slabs)) }
         ensures err { OnErr result (self.new ≡ self.old) }
         ensures sound { AreSlabs self.new.slabs }
     {
@@ -122,8 +129,9 @@ impl Slabs {
 
     /// The list of the slab that begins at the base, by rising number, or `None` where none begins there.
     pub fn list(&self, base: u64) -> Option<&[Round]>
-        ensures { MatchOption result (All (λ s. s.base ≢ base) self.now.slabs)
-            (λ list. Any (λ s. (s.base ≡ base) × (s.list ≡ list.now)) self.now.slabs) }
+        ensures list { MatchOption result (All (λ slab. slab.base ≢ base) self.now.slabs)
+            (λ list. HasListAt self.now.slabs base list.now) }
+        ensures sound { AreSlabs self.now.slabs }
     {
         let slab = self.slabs.iter().find(|slab| slab.base() == base)?;
         Some(slab.list())
@@ -133,12 +141,14 @@ impl Slabs {
     /// `None` where there is none. It takes no memory.
     pub fn drop_empty(&mut self) -> Option<EmptySlab>
         // Which slab it is.
-        ensures lowest { IfSome result (λ empty. Any (λ s. IsLowestComplete self.old.slabs s × (empty.base ≡ s.base) × (empty.rounds.items ≡ s.list)) self.old.slabs) }
-        ensures none { IsNone result ↔ All (λ s. ¬ IsComplete s) self.old.slabs }
+        ensures lowest { IfSome result (λ empty. HasLowestComplete self.old.slabs empty.base empty.rounds.items) }
+        ensures none { IsNone result ↔ All (λ slab. ¬ IsComplete slab) self.old.slabs }
 
         // The slabs afterwards.
-        ensures dropped { MatchOption result (self.new ≡ self.old) (λ empty. self.new ≡ record self.old { slabs = without_base self.old.slabs empty.base }) }
-        ensures holds { IfSome result (λ empty. IsPermutation (rounds_of self.old.slabs) (empty.rounds.items ++ rounds_of self.new.slabs)) }
+        ensures dropped { MatchOption result (self.new ≡ self.old)
+            (λ empty. self.new ≡ record self.old { slabs = without_slab_at self.old.slabs empty.base }) }
+        ensures holds { IfSome result (λ empty.
+            IsPermutation (listed_rounds self.old.slabs) (empty.rounds.items ++ listed_rounds self.new.slabs)) }
         ensures sound { AreSlabs self.new.slabs }
     {
         let index = lowest_complete(&self.slabs)?;

@@ -1,2 +1,3 @@
-pub mod Search
-pub mod Changes
+pub mod ArenaLemmas
+pub mod GapLemmas
+pub mod UntakenLemmas

@@ -1,2 +1,3 @@
-pub mod Spans
-pub mod Gaps
+pub mod Arena
+pub mod Gap
+pub mod Untaken

@@ -3,12 +3,11 @@
 
 mod arena;
 mod gap;
+pub mod laws;
 mod not_a_span;
-mod span;
 
 pub use arena::Arena;
 pub use not_a_span::NotASpan;
-pub use span::Span;
 
 #[cfg(test)]
 mod tests;

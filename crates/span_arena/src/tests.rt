@@ -1,5 +1,6 @@
 use super::*;
 use std::test::Fail;
+use umem_base::Span;
 
 #[derive(Clone, Copy)]
 enum Step {

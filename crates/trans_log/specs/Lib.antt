@@ -1,2 +1,3 @@
-pub mod Kept
 pub mod Last
+pub mod Log
+pub mod SavedLog

@@ -1,5 +1,5 @@
 ghost use Rattle.std.specs.Prelude.{◌≡◌, ◌^◌, ◌<◌, ◌≤◌, [], ◌∷◌, ◌++◌, length, map, IfOk};
-ghost use Rattle.trans_log.specs.Last.{last_of};
+ghost use Rattle.trans_log.specs.Last.{with_new};
 
 use circular_buffer::HeapCircularBuffer;
 use std::alloc::Global;
@@ -7,7 +7,7 @@ use std::marker::Model;
 use umem_base::NoMemory;
 
 /// A log that keeps the last `capacity` items that were entered, in memory that it took when it was made.
-/// Contracts see its capacity, and the items that it has, oldest first. A log of capacity 0 keeps nothing.
+/// Contracts see its capacity, and the items that it has, oldest first. With a capacity of 0 it stays empty.
 #[derive(Debug, Drop)]
 pub struct Log<T> {
     kept: HeapCircularBuffer<T>,
@@ -15,9 +15,9 @@ pub struct Log<T> {
 
 impl<T> Model for Log<T> {
     ghost use Rattle.std.specs.Prelude.{◌^◌, ◌<◌, ◌≤◌, length};
-    ghost use Rattle.trans_log.specs.Kept.{Kept};
+    ghost use Rattle.trans_log.specs.Log.{Log};
 
-    ghost Value = { Kept T };
+    ghost Value = { Log T };
 
     ghost view = { λ l. record { capacity = l.kept.capacity; items = l.kept.items } };
 
@@ -38,7 +38,7 @@ impl<T> Log<T> {
     pub fn enter(&mut self, item: T)
     where
         T: Drop,
-        ensures items { self.new.items ≡ last_of self.old.capacity (self.old.items ++ item ∷ []) }
+        ensures items { self.new.items ≡ with_new self.old.capacity self.old.items item }
         ensures capacity { self.new.capacity ≡ self.old.capacity }
     {
         let _ = self.kept.push_back(item);

@@ -1,8 +1,8 @@
-use umem_base::Stack;
+use umem_base::{Sequence, Text};
 
-/// A transaction: an allocation that was answered with a chunk, or a free of a chunk that was answered
-/// `ok`, while audit is on. Its kinds are those of the transaction log of umem_debug(3MALLOC).
-#[derive(Debug, Drop)]
+/// What an allocation leaves that gave out a chunk, and a free that took one back, while audit is on. The
+/// kinds are those that the transaction log of umem_debug(3MALLOC) tells apart.
+#[derive(Clone, Debug, Drop, PartialEq, Eq)]
 pub struct Trans {
     /// 1 for an allocation, 2 for a free.
     pub kind: u32,
@@ -14,11 +14,11 @@ pub struct Trans {
     /// The number of the entry of the history that made it.
     pub time: u64,
     /// The frames of the call, innermost first.
-    pub stack: Stack,
+    pub stack: Sequence<u64>,
 }
 
-/// An allocation from a size class or a declared cache that was answered `nospace`. Requests that are too
-/// large for a size class are not logged, which is this project's own rule.
+/// An allocation that found no space for a chunk, of a size class or of a declared cache. That a buffer of
+/// whole pages leaves no such record is this project's own rule.
 #[derive(Clone, Copy, Debug, PartialEq, Eq)]
 pub struct Fail {
     pub thread: u32,
@@ -28,4 +28,15 @@ pub struct Fail {
     pub size: u64,
     /// The number of the entry of the history that was answered so.
     pub time: u64,
+}
+
+/// What a contents log keeps of a buffer that was freed while audit is on.
+#[derive(Clone, Debug, Drop, PartialEq, Eq)]
+pub struct Saved {
+    /// The number of the entry of the history that freed it.
+    pub time: u64,
+    /// The chunk's index among all chunks of the heap.
+    pub chunk: u32,
+    /// The first bytes that it had before.
+    pub bytes: Text,
 }

@@ -1,7 +1,9 @@
-mod Cuts
-mod Digits
-mod FileLists
-mod Known
-mod Moves
-mod OpenedFiles
+mod CutLemmas
+mod FilesLemmas
+mod MemFolderLemmas
+mod MemSourceLemmas
+mod NumbersLemmas
+mod TransferLemmas
 pub mod Lists
+pub mod OrderedLemmas
+pub mod WordsLemmas

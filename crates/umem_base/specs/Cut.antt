@@ -9,4 +9,6 @@ onto_first byte (part ∷ parts) = (byte ∷ part) ∷ parts
 -- the parts before, between and behind the separators: one more than there are separators
 abbrev pub cut : ℕ → List ℕ → List (List ℕ)
 cut separator [] = [] ∷ []
-cut separator (byte ∷ bytes) = if byte == separator then [] ∷ cut separator bytes else onto_first byte (cut separator bytes)
+cut separator (byte ∷ bytes) =
+    if byte == separator then [] ∷ cut separator bytes
+    else onto_first byte (cut separator bytes)

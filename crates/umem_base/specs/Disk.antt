@@ -4,6 +4,7 @@ use Rattle.umem_base.specs.Folder.{Activity, Idle, Reading, Writing}
 use Rattle.umem_base.specs.declared.system.open_file.OpenFile.{OpenFile}
 use Rattle.umem_base.specs.declared.system.open_file.OpenFile.TheVariants as open_file
 
+-- what a folder does, by the file that it has open
 abbrev pub activity_of : {F : Type 0} → OpenFile F → Activity
 activity_of open_file.Nothing = Idle
 activity_of (open_file.Read file) = Reading None

@@ -14,11 +14,13 @@ pub data Activity : Type 0 where
   Reading : (left : Option (List ℕ)) → Activity
   Writing : (name : Option (List ℕ)) → Activity
 
+-- it reads a file
 abbrev pub IsReading : Activity → Type 0
 IsReading Idle = ⊥
 IsReading (Reading left) = ⊤
 IsReading (Writing name) = ⊥
 
+-- it writes a file
 abbrev pub IsWriting : Activity → Type 0
 IsWriting Idle = ⊥
 IsWriting (Reading left) = ⊥
@@ -46,7 +48,8 @@ OpensWhere false files name before after = MayLack files name × (after ≡ befo
 
 -- An opening for reading answers whether the file is there. It is then read from its start, and else nothing changes.
 abbrev pub Opens : {E : Type 0} → Files → List ℕ → Activity → Activity → Result Bool E → Type 0
-Opens files name before after result = MatchResult result (λ found. OpensWhere found files name before after) (λ _. after ≡ before)
+Opens files name before after result =
+    MatchResult result (λ found. OpensWhere found files name before after) (λ _. after ≡ before)
 
 -- what is left of the file that is read
 abbrev pub left_of : Activity → Option (List ℕ)
@@ -56,13 +59,15 @@ left_of (Writing name) = None
 
 -- a read moves bytes as a source does, and goes on reading the same file
 abbrev pub ReadsOn : {E : Type 0} → Activity → Activity → Result ℕ E → List ℕ → Type 0
-ReadsOn before after result buffer = IsReading after × ReadConsumes (left_of before) (left_of after) result buffer
+ReadsOn before after result buffer =
+    IsReading after × ReadConsumes (left_of before) (left_of after) result buffer
 
 -- the file of that name has these bytes, and every other file is as before
 abbrev pub Sets : Files → Files → List ℕ → Option (List ℕ) → Type 0
 Sets None after name bytes = ⊤
 Sets (Some before) None name bytes = ⊥
-Sets (Some before) (Some after) name bytes = (after name ≡ bytes) × ((other : List ℕ) → other ≢ name → after other ≡ before other)
+Sets (Some before) (Some after) name bytes =
+    (after name ≡ bytes) × ((other : List ℕ) → other ≢ name → after other ≡ before other)
 
 -- the name of the file that is written, where the folder tells of files
 abbrev pub told_name : Files → List ℕ → Option (List ℕ)
@@ -71,5 +76,6 @@ told_name files name = option_map (λ _. name) files
 -- the file that is written grows by these bytes, and every other file is as before
 abbrev pub Grows : Activity → Files → Files → List ℕ → Type 0
 Grows activity None after bytes = ⊤
-Grows (Writing (Some name)) (Some before) after bytes = Sets (Some before) after name (option_map (λ (old : List ℕ). old ++ bytes) (before name))
+Grows (Writing (Some name)) (Some before) after bytes =
+    Sets (Some before) after name (option_map (λ (old : List ℕ). old ++ bytes) (before name))
 Grows activity (Some before) after bytes = ⊥

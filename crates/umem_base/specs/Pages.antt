@@ -1,21 +1,19 @@
--- Pages of 4,096 bytes, each named by its address, and runs of them. The words take what it means that a
--- page is free, so that an arena and a history can each say it in their own terms.
-use Rattle.std.specs.Prelude.{◌≡◌, ℕ, ◌+◌, ◌*◌, ◌/◌, ◌%◌, ◌<◌}
-
-abbrev pub page_size : ℕ
-page_size = 4096
+-- Pages, each named by its address, and runs of them. The words take what it means that a page is free, so
+-- that an arena and a history can each say it in their own terms.
+use Rattle.std.specs.Prelude.{◌≡◌, ℕ, ◌+◌, ◌-◌, ◌*◌, ◌/◌, ◌%◌, ◌<◌}
+use Rattle.umem_base.specs.declared.pages.TheConstants.{PAGE_BYTES}
 
 -- how many pages hold so many bytes
 abbrev pub pages_for : ℕ → ℕ
-pages_for size = (size + 4095) / page_size
+pages_for bytes = (bytes + (PAGE_BYTES - 1)) / PAGE_BYTES
 
 -- a page begins there
 abbrev pub IsPage : ℕ → Type 0
-IsPage address = address % page_size ≡ 0
+IsPage address = address % PAGE_BYTES ≡ 0
 
 -- the run of pages from base on is free
 abbrev pub IsFreeRun : (ℕ → Type 0) → ℕ → ℕ → Type 0
-IsFreeRun IsFree pages base = (k : ℕ) → k < pages → IsFree (base + page_size * k)
+IsFreeRun IsFree pages base = (k : ℕ) → k < pages → IsFree (base + PAGE_BYTES * k)
 
 -- no run of so many pages is free
 abbrev pub HasNoRun : (ℕ → Type 0) → ℕ → Type 0

@@ -42,17 +42,26 @@ CountsReadFault before now (Err ReadFault) = Rose before now
 CountsReadFault before now (Err TooLong) = now ≡ before
 CountsReadFault before now (Err NoMemory) = now ≡ before
 
--- the folder goes on reading behind some of the bytes that were left
-abbrev pub ReadsBehind : Option (List ℕ) → Activity → Type 0
-ReadsBehind left after = IsReading after × ((came : List ℕ) × Consumes left (left_of after) came)
+-- the folder goes on reading behind these bytes, which were left before
+abbrev pub ReadsBehind : Option (List ℕ) → Activity → List ℕ → Type 0
+ReadsBehind left after came = IsReading after × Consumes left (left_of after) came
 
--- The bytes that came are gone from what the folder has to read. After all of them nothing is left.
-abbrev pub LeavesActivity : Option (List ℕ) → Activity → Activity → Result (Vec ℕ) ReadFile → Type 0
-LeavesActivity left before after (Ok bytes) = IsReading after × IsAtEnd (left_of after)
-LeavesActivity left before after (Err Missing) = after ≡ before
-LeavesActivity left before after (Err ReadFault) = (after ≡ before) ⊎ ReadsBehind left after
-LeavesActivity left before after (Err TooLong) = ReadsBehind left after
-LeavesActivity left before after (Err NoMemory) = ReadsBehind left after
+-- some bytes came, no more than the limit
+abbrev pub ReadsSome : Option (List ℕ) → ℕ → Activity → Type 0
+ReadsSome left limit after = (came : List ℕ) × (length came ≤ limit) × ReadsBehind left after came
+
+-- more bytes came than the limit
+abbrev pub ReadsPast : Option (List ℕ) → ℕ → Activity → Type 0
+ReadsPast left limit after = (came : List ℕ) × (limit < length came) × ReadsBehind left after came
+
+-- The folder reads on behind the bytes that came. After all of them nothing is left. A fault
+-- comes at the opening, which changes nothing, or behind bytes that are no more than the limit.
+abbrev pub LeavesActivity : Option (List ℕ) → ℕ → Activity → Activity → Result (Vec ℕ) ReadFile → Type 0
+LeavesActivity left limit before after (Ok bytes) = IsReading after × IsAtEnd (left_of after)
+LeavesActivity left limit before after (Err Missing) = after ≡ before
+LeavesActivity left limit before after (Err ReadFault) = (after ≡ before) ⊎ ReadsSome left limit after
+LeavesActivity left limit before after (Err TooLong) = ReadsPast left limit after
+LeavesActivity left limit before after (Err NoMemory) = ReadsSome left limit after
 
 -- a whole piece was taken, or at a fault a front of it
 abbrev pub WritesWhole : {E : Type 0} → Option (List ℕ) → Option (List ℕ) → List ℕ → Result (Unit {0}) E → Type 0

@@ -2,6 +2,7 @@
 //! meaning and a count of faults.
 #![tactic(auto)]
 
+mod arena;
 mod bad_number;
 mod bounded_vec;
 mod cut;
@@ -9,24 +10,35 @@ mod memory;
 mod no_memory;
 mod number;
 mod outside;
+mod pages;
 mod read_file_error;
+mod roots;
 mod sequence;
+mod span;
+mod steps;
 mod system;
 mod text;
 mod transfer;
+mod words;
 
+pub use arena::{ARENA_BASE, FIRST_ARENA_PAGES, LATER_ARENA_PAGES, arena_pages};
 pub use bad_number::BadNumber;
 pub use bounded_vec::{BoundedVec, Stack};
 pub use cut::split_once;
 pub use memory::{MemFolder, MemSink, MemSource};
 pub use no_memory::NoMemory;
-pub use number::{put_decimal, put_hex, read_decimal};
+pub use number::{put_decimal, put_hex, read_decimal, read_hex};
 pub use outside::{Failed, Folder, Gate, NoGate, Sink, Source};
+pub use pages::{PAGE_BYTES, pages_for};
 pub use read_file_error::ReadFile;
+pub use roots::{LAST_SLOT, OWN_ROOTS, ROOT_WORDS, SHARED_ROOT, own_root};
 pub use sequence::Sequence;
+pub use span::Span;
+pub use steps::Steps;
 pub use system::{DiskFolder, OpenFile, StdSink, StdSource};
 pub use text::Text;
 pub use transfer::{WriteFault, read_file, write_whole};
+pub use words::fill_words;
 
 #[cfg(test)]
 mod tests;

@@ -1,11 +1,10 @@
-//! A source, a sink and a folder in memory. Each is given the numbers, from 0, of its calls that fail and
-//! change nothing but the counts; what else fails is said at each call, and no call of the traits takes
-//! memory.
+//! A source, a sink and a folder in memory. Which of their calls fail is planned when they are made, by numbers
+//! from 0; such a call only counts. The memory is taken before: reading and writing take none.
 
+mod fault_plan;
 mod file;
 mod folder;
 mod open;
-mod plan;
 mod sink;
 mod source;
 mod table;

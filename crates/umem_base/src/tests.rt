@@ -1,4 +1,8 @@
+mod adapters;
+
 use super::*;
+use std::cmp::Ordering;
+use std::hash::{DefaultHasher, Hash, Hasher};
 use std::test::Fail;
 
 #[test]
@@ -31,6 +35,46 @@ fn reads_numbers(rt: HostRuntime) {
     ] {
         assert_eq!(rt; read_decimal(bytes), number);
     }
+    for (bytes, number) in [
+        (b"0".as_slice(), Ok(0)),
+        (b"00fF", Ok(255)),
+        (b"ffffffffffffffff", Ok(u64::MAX)),
+        (b"10000000000000000", Err(BadNumber::TooLarge)),
+        (b"", Err(BadNumber::NotDigits)),
+        (b"0x1", Err(BadNumber::NotDigits)),
+        (b"fg", Err(BadNumber::NotDigits)),
+    ] {
+        assert_eq!(rt; read_hex(bytes), number);
+    }
+}
+
+#[test]
+fn fills_by_words(rt: HostRuntime) {
+    let mut bytes = [0; 11];
+    fill_words(&mut bytes, 0x0807_0605_0403_0201);
+    assert_eq!(rt;
+        bytes.as_slice(),
+        [1, 2, 3, 4, 5, 6, 7, 8, 1, 2, 3].as_slice()
+    );
+    fill_words(&mut bytes[9..], 0);
+    assert_eq!(rt;
+        bytes.as_slice(),
+        [1, 2, 3, 4, 5, 6, 7, 8, 1, 0, 0].as_slice()
+    );
+}
+
+#[test]
+fn counts_pages(rt: HostRuntime) {
+    for (bytes, pages) in [(0, 0), (1, 1), (4096, 1), (4097, 2), (u64::MAX, 1 << 52)] {
+        assert_eq!(rt; pages_for(bytes), pages);
+    }
+    let span = Span {
+        base: ARENA_BASE,
+        pages: arena_pages(1),
+    };
+    assert_eq!(rt; (span.end(), arena_pages(2)), (0x50_0000, 4096));
+    assert_eq!(rt; (own_root(0), own_root(31)), (0x2000, 0x2_1000));
+    assert_eq!(rt; (SHARED_ROOT, ROOT_WORDS, LAST_SLOT), (0x1000, 512, 511));
 }
 
 #[test]
@@ -60,6 +104,47 @@ fn gives_the_last_item_back(rt: HostRuntime) -> Result<(), Fail> {
         (list.pop(), list.pop(), list.pop()),
         (Some(7), Some(5), None)
     );
+    Ok(())
+}
+
+fn hash_of<T: Hash>(value: &T) -> u64 {
+    let mut state = DefaultHasher::new();
+    value.hash(&mut state);
+    state.finish()
+}
+
+#[test]
+fn compares_lists(rt: HostRuntime) -> Result<(), Fail> {
+    let alloc = rt.alloc();
+    for (one, two, order) in [
+        ([1, 2], [1, 2], Ordering::Equal),
+        ([1, 2], [1, 3], Ordering::Less),
+        ([2, 1], [1, 3], Ordering::Greater),
+    ] {
+        let equal = order == Ordering::Equal;
+        let mut roomy: Stack = BoundedVec::with_room(alloc, 3)?;
+        roomy.push(one[0]);
+        roomy.push(one[1]);
+        let close = BoundedVec::from_vec(Vec::from_slice(alloc, &two)?);
+        assert_eq!(rt;
+            (roomy.len(), roomy.spare(), roomy.is_full()),
+            (2, 1, false)
+        );
+        assert_eq!(rt; (close.len(), close.spare(), close.is_full()), (2, 0, true));
+        assert_eq!(rt; (roomy == close, roomy.cmp(&close)), (equal, order));
+        assert_eq!(rt; hash_of(&roomy) == hash_of(&close), equal);
+        let again = roomy.clone()?;
+        assert_eq!(rt; (again == roomy, again.spare()), (true, 1));
+
+        let first = Sequence::new(roomy.into_vec());
+        let second = Sequence::new(close.into_vec());
+        assert_eq!(rt; (first == second, first.cmp(&second)), (equal, order));
+        assert_eq!(rt; hash_of(&first) == hash_of(&second), equal);
+        assert_eq!(rt; first.clone()? == first, true);
+    }
+    let name = Text::from_slice(alloc, b"a")?;
+    assert_eq!(rt; name.clone()? == name, true);
+    assert_eq!(rt; name == Text::from_slice(alloc, b"ab")?, false);
     Ok(())
 }
 

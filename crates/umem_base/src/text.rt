@@ -1,8 +1,11 @@
+ghost use Rattle.std.specs.Cmp.{partial_equiv_from_equiv};
+ghost use Rattle.std.specs.Cmp.Lexicographic.{nat_list_eq_equiv};
+ghost use Rattle.std.specs.Str.{bytes_eq};
 ghost use Rattle.std.specs.Prelude.{◌≡◌, [], ◌++◌, take, IfOk, OnOk, OnErr};
 ghost use Rattle.umem_base.specs.Numbers.{right_aligned};
 
 use crate::no_memory::NoMemory;
-use std::alloc::Global;
+use std::alloc::{AllocError, Global};
 use std::marker::Model;
 
 /// Bytes that grow at their end. Contracts see a text as the list of its bytes, which may be any.
@@ -80,5 +83,29 @@ impl Text {
         ensures { self.new ≡ take len self.old }
     {
         self.bytes.truncate(len);
+    }
+}
+
+impl PartialEq for Text {
+    ghost eq = { bytes_eq };
+
+    ghost laws = { partial_equiv_from_equiv nat_list_eq_equiv };
+
+    fn eq(&self, other: &Self) -> bool {
+        self.as_slice() == other.as_slice()
+    }
+}
+
+impl Eq for Text {
+    ghost laws = { nat_list_eq_equiv };
+}
+
+impl Clone for Text {
+    ghost is_clone = { λ t u. u ≡ t };
+
+    fn clone(&self) -> Result<Self, AllocError> {
+        Ok(Text {
+            bytes: Vec::from_slice(self.allocator(), self.as_slice())?,
+        })
     }
 }

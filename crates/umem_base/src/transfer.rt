@@ -21,8 +21,8 @@ impl From<Failed> for WriteFault {
     }
 }
 
-/// The bytes of a file, if they are at most `limit`. After a refusal but `Missing` the bytes that came are
-/// gone from what the folder still has to read.
+/// The bytes of a file, if they are at most `limit`. A refusal in the middle leaves the folder reading, behind
+/// what was read until then.
 pub fn read_file<F: Folder>(
     alloc: Global,
     files: &mut F,
@@ -31,7 +31,8 @@ pub fn read_file<F: Folder>(
 ) -> Result<Vec<u8>, ReadFile>
     ensures bytes { ReadsFile (F.files files.old) name.now limit result }
     ensures cause { CountsReadFault (F.read_faults files.old) (F.read_faults files.new) result }
-    ensures activity { LeavesActivity (bytes_of (F.files files.old) name.now) (F.activity files.old) (F.activity files.new) result }
+    ensures activity { LeavesActivity (bytes_of (F.files files.old) name.now) limit
+        (F.activity files.old) (F.activity files.new) result }
     ensures files { F.files files.new ≡ F.files files.old }
     ensures write_faults { F.write_faults files.new ≡ F.write_faults files.old }
 {
@@ -47,7 +48,8 @@ fn read_open<F: Folder>(alloc: Global, files: &mut F, limit: usize) -> Result<Ve
     requires { IsReading (F.activity files.old) }
     ensures bytes { ReadsAll (left_of (F.activity files.old)) limit result }
     ensures cause { CountsReadFault (F.read_faults files.old) (F.read_faults files.new) result }
-    ensures activity { LeavesActivity (left_of (F.activity files.old)) (F.activity files.old) (F.activity files.new) result }
+    ensures activity { LeavesActivity (left_of (F.activity files.old)) limit
+        (F.activity files.old) (F.activity files.new) result }
     ensures files { F.files files.new ≡ F.files files.old }
     ensures write_faults { F.write_faults files.new ≡ F.write_faults files.old }
 {

@@ -1,6 +1,7 @@
-pub mod Words
-pub mod Runs
-pub mod Described
-pub mod Histories
-pub mod Streams
-pub mod Readings
+pub mod MeaningLemmas
+pub mod TablesLemmas
+pub mod RunLemmas
+pub mod RunnableLemmas
+pub mod MessagesLemmas
+pub mod OutcomesLemmas
+pub mod WordsLemmas

@@ -1,7 +1,10 @@
 pub mod Tables
-pub mod Runs
+pub mod Run
+pub mod Runnable
 pub mod Messages
+pub mod Streams
 pub mod Promise
-pub mod Codes
-pub mod Refusals
+pub mod Status
+pub mod Refusal
 pub mod Outcomes
+pub mod Words

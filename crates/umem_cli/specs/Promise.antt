@@ -1,37 +1,21 @@
 -- What a call of the program gives out.
-use Rattle.std.specs.Prelude.{◌≡◌, ℕ, ◌<◌, ◌⊎◌, ⊤, List, [], ◌∷◌, length, take, Option, Some, None, false, codes}
-use Rattle.std.specs.Io.KnownBytes.{Appends}
+use Rattle.std.specs.Prelude.{◌≡◌, ℕ, ◌⊎◌, ⊤, List, [], ◌∷◌, Some, Ok, Err, false, codes}
 use Rattle.umem_base.specs.Faults.{Rose}
 use Rattle.umem_base.specs.Folder.{Files, bytes_of, MayHave, MayLack}
 use Rattle.umem_base.specs.Transfer.{Are}
+use Rattle.script.specs.declared.reasons.Reason.{Reason}
 use Rattle.script.specs.Grammar.{script_of}
 use Rattle.script.specs.Plan.{Plan}
 use Rattle.plain_heap.specs.declared.entry.Entry.{Entry}
-use Rattle.plain_heap.specs.Answers.{Answers}
+use Rattle.plain_heap.specs.FirstAnswers.{FirstAnswers}
 use Rattle.plain_heap.specs.Texts.{transcript_text}
 use Rattle.umem_cli.specs.declared.refusal.Refusal.{Refusal}
 use Rattle.umem_cli.specs.declared.refusal.Refusal.TheVariants as refusal
 use Rattle.umem_cli.specs.declared.status.Status.{Status}
 use Rattle.umem_cli.specs.declared.status.Status.TheVariants.{Done, Refused, Usage, BadScript, BadCore, ReadFault, WriteFault, NoMemory, NoFile}
 use Rattle.umem_cli.specs.Messages.{usage_text, message_text}
-
--- ---- streams
-
--- what a sink has taken, where it tells it, and how often it failed
-pub record Stream : Type 0 where
-  pub taken : Option (List ℕ)
-  pub faults : ℕ
-
-abbrev pub stream : Option (List ℕ) → ℕ → Stream
-stream taken faults = record { taken = taken; faults = faults }
-
--- it took these bytes, and did not fail
-abbrev pub Takes : Stream → Stream → List ℕ → Type 0
-Takes before after bytes = Appends before.taken after.taken bytes × (after.faults ≡ before.faults)
-
--- it took a front of these bytes, and failed
-abbrev pub TakesFront : Stream → Stream → List ℕ → Type 0
-TakesFront before after bytes = (n : ℕ) × (n < length bytes) × Appends before.taken after.taken (take n bytes) × Rose before.faults after.faults
+use Rattle.umem_cli.specs.Runnable.{IsRunnable}
+use Rattle.umem_cli.specs.Streams.{Seen, Takes, TakesFront, HasNoFault}
 
 -- ---- a run
 
@@ -41,30 +25,32 @@ pub record IsTranscript (files : Files) (name text : List ℕ) : Type 0 where
   pub bytes : List ℕ
   pub read : Are (bytes_of files name) bytes
   pub plan : Plan
-  pub spelled : script_of bytes ≡ Some plan
+  pub spelled : script_of bytes ≡ Ok plan
+  pub runnable : IsRunnable plan
   pub history : List Entry
-  pub answers : Answers plan history
+  pub answers : FirstAnswers plan history
   pub printed : text ≡ transcript_text plan.header false history
 
--- the file is there, and its bytes spell no script
-pub record SpellsNone (files : Files) (name : List ℕ) : Type 0 where
+-- the file is there, and that is the first bad line of its bytes, with its reason
+pub record IsBadAt (files : Files) (name : List ℕ) (line : ℕ) (reason : Reason) : Type 0 where
   pub file : MayHave files name
   pub bytes : List ℕ
   pub read : Are (bytes_of files name) bytes
-  pub none : script_of bytes ≡ None
+  pub bad : script_of bytes ≡ Err (line, reason)
 
--- what is seen outside of the program: the read faults of the folder, and the two streams
-pub record Seen : Type 0 where
-  pub read_faults : ℕ
-  pub out : Stream
-  pub err : Stream
+-- the file is there, and its bytes spell a script that can't be run
+pub record SpellsOther (files : Files) (name : List ℕ) : Type 0 where
+  pub file : MayHave files name
+  pub bytes : List ℕ
+  pub read : Are (bytes_of files name) bytes
+  pub plan : Plan
+  pub spelled : script_of bytes ≡ Ok plan
+  pub other : ¬ IsRunnable plan
 
-abbrev pub seen : ℕ → Stream → Stream → Seen
-seen read_faults out err = record { read_faults = read_faults; out = out; err = err }
-
--- why a line is written on the error stream
+-- why a line is written on the error stream, with the count of read faults before and after
 abbrev pub IsCause : Files → List ℕ → ℕ → ℕ → Refusal → Type 0
-IsCause files name before after refusal.NoScript = SpellsNone files name × (after ≡ before)
+IsCause files name before after (refusal.BadScript line reason) = IsBadAt files name line reason × (after ≡ before)
+IsCause files name before after refusal.NoScript = SpellsOther files name × (after ≡ before)
 IsCause files name before after refusal.NoFile = MayLack files name × (after ≡ before)
 IsCause files name before after refusal.ReadFault = Rose before after
 IsCause files name before after refusal.WriteFault = ⊥
@@ -73,60 +59,69 @@ IsCause files name before after refusal.NoMemory = ⊥
 -- the line was written, for its cause, and nothing else
 abbrev pub Complains : Files → List ℕ → Seen → Seen → Refusal → Type 0
 Complains files name before after why =
-    IsCause files name before.read_faults after.read_faults why × (after.out ≡ before.out) × Takes before.err after.err (message_text name why)
+    IsCause files name before.read_faults after.read_faults why
+    × (after.out ≡ before.out) × Takes before.err after.err (message_text name why)
+
+-- the line of a bad script was written, or that of one that can't be run, and nothing else
+abbrev pub ComplainsOfScript : Files → List ℕ → Seen → Seen → Type 0
+ComplainsOfScript files name before after =
+    ((line : ℕ) × (reason : Reason) × Complains files name before after (refusal.BadScript line reason))
+    ⊎ Complains files name before after refusal.NoScript
 
 -- the whole transcript was written, and nothing else
 abbrev pub Prints : Files → List ℕ → Seen → Seen → Type 0
 Prints files name before after =
-    (text : List ℕ) × IsTranscript files name text × (after.read_faults ≡ before.read_faults) × (after.err ≡ before.err) × Takes before.out after.out text
+    (text : List ℕ) × IsTranscript files name text
+    × (after.read_faults ≡ before.read_faults) × (after.err ≡ before.err) × Takes before.out after.out text
 
 -- the output failed, after it had taken a front of the transcript
 abbrev pub FailsOut : Files → List ℕ → Seen → Seen → Type 0
 FailsOut files name before after =
-    (text : List ℕ) × IsTranscript files name text × (after.read_faults ≡ before.read_faults) × (after.err ≡ before.err) × TakesFront before.out after.out text
+    (text : List ℕ) × IsTranscript files name text
+    × (after.read_faults ≡ before.read_faults) × (after.err ≡ before.err) × TakesFront before.out after.out text
 
 -- the error stream failed, after it had taken a front of a line
 abbrev pub FailsErr : Files → List ℕ → Seen → Seen → Type 0
 FailsErr files name before after =
-    (why : Refusal) × IsCause files name before.read_faults after.read_faults why × (after.out ≡ before.out) × TakesFront before.err after.err (message_text name why)
+    (why : Refusal) × IsCause files name before.read_faults after.read_faults why
+    × (after.out ≡ before.out) × TakesFront before.err after.err (message_text name why)
+
+-- memory was short: nothing was written, and no count of faults rose
+abbrev pub LacksMemory : Seen → Seen → Type 0
+LacksMemory before after = after ≡ before
 
 -- what `run` gives out for the file of that name, by its status
 abbrev pub GivenOut : Files → List ℕ → Seen → Seen → Status → Type 0
 GivenOut files name before after Done = Prints files name before after
 GivenOut files name before after Refused = ⊥
 GivenOut files name before after Usage = ⊥
-GivenOut files name before after BadScript = Complains files name before after refusal.NoScript
+GivenOut files name before after BadScript = ComplainsOfScript files name before after
 GivenOut files name before after BadCore = ⊥
 GivenOut files name before after ReadFault = Complains files name before after refusal.ReadFault
 GivenOut files name before after WriteFault = FailsOut files name before after ⊎ FailsErr files name before after
-GivenOut files name before after NoMemory = (after.out ≡ before.out) × (after.err ≡ before.err)
+GivenOut files name before after NoMemory = LacksMemory before after
 GivenOut files name before after NoFile = Complains files name before after refusal.NoFile
 
--- ---- the words
+-- ---- words that are text
 
 -- the words ask to run the script in the file of that name
 abbrev pub IsRunOf : List (List ℕ) → List ℕ → Type 0
 IsRunOf words name = words ≡ codes "run" ∷ name ∷ []
 
--- what words that are no command give out
-abbrev pub GivenUsage : Seen → Seen → Status → Type 0
-GivenUsage before after Usage = (after.read_faults ≡ before.read_faults) × (after.out ≡ before.out) × Takes before.err after.err usage_text
-GivenUsage before after WriteFault = (after.read_faults ≡ before.read_faults) × (after.out ≡ before.out) × TakesFront before.err after.err usage_text
-GivenUsage before after other = ⊥
+-- words that are no command get the usage lines, and nothing else
+abbrev pub ComplainsOfWords : Seen → Seen → Status → Type 0
+ComplainsOfWords before after Usage =
+    (after.read_faults ≡ before.read_faults) × (after.out ≡ before.out) × Takes before.err after.err usage_text
+ComplainsOfWords before after WriteFault =
+    (after.read_faults ≡ before.read_faults) × (after.out ≡ before.out)
+    × TakesFront before.err after.err usage_text
+ComplainsOfWords before after other = ⊥
 
 -- what the program gives out for its words
-abbrev pub GivenFor : List (List ℕ) → Files → Seen → Seen → Status → Type 0
-GivenFor words files before after status =
+abbrev pub GivenOutFor : List (List ℕ) → Files → Seen → Seen → Status → Type 0
+GivenOutFor words files before after status =
     ((name : List ℕ) × IsRunOf words name × GivenOut files name before after status)
-    ⊎ (((name : List ℕ) → IsRunOf words name → ⊥) × GivenUsage before after status)
-
--- ---- completeness
-
--- no count of faults rose
-pub record HasNoFault (before after : Seen) : Type 0 where
-  pub reads : Rose before.read_faults after.read_faults → ⊥
-  pub out : Rose before.out.faults after.out.faults → ⊥
-  pub err : Rose before.err.faults after.err.faults → ⊥
+    ⊎ (((name : List ℕ) → IsRunOf words name → ⊥) × ComplainsOfWords before after status)
 
 -- the status is Done, or memory was short
 abbrev pub IsDone : Status → Type 0
@@ -134,11 +129,13 @@ IsDone Done = ⊤
 IsDone NoMemory = ⊤
 IsDone other = ⊥
 
--- where a script is there and nothing failed, it was run
-abbrev pub IsComplete : Files → List ℕ → Seen → Seen → Status → Type 0
-IsComplete files name before after status =
-    (bytes : List ℕ) (plan : Plan) → bytes_of files name ≡ Some bytes → script_of bytes ≡ Some plan → HasNoFault before after → IsDone status
+-- where a script is there that can be run, and nothing failed, it was run
+abbrev pub IsWholeRun : Files → List ℕ → Seen → Seen → Status → Type 0
+IsWholeRun files name before after status =
+    (bytes : List ℕ) (plan : Plan) → bytes_of files name ≡ Some bytes → script_of bytes ≡ Ok plan → IsRunnable plan
+    → HasNoFault before after → IsDone status
 
--- where the words ask for a script that is there and nothing failed, it was run
-abbrev pub IsCompleteFor : List (List ℕ) → Files → Seen → Seen → Status → Type 0
-IsCompleteFor words files before after status = (name : List ℕ) → IsRunOf words name → IsComplete files name before after status
+-- where the words ask for a script that is there and can be run, and nothing failed, it was run
+abbrev pub IsWholeRunFor : List (List ℕ) → Files → Seen → Seen → Status → Type 0
+IsWholeRunFor words files before after status =
+    (name : List ℕ) → IsRunOf words name → IsWholeRun files name before after status

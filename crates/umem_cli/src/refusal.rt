@@ -1,13 +1,16 @@
 ghost use Rattle.std.specs.Prelude.{◌≡◌};
 ghost use Rattle.umem_cli.specs.declared.refusal.Refusal.TheVariants.{NoMemory, WriteFault};
-ghost use Rattle.umem_cli.specs.Refusals.{refusal_of_read, refusal_of_script};
+ghost use Rattle.umem_cli.specs.Refusal.{refusal_of_read, refusal_of_script};
 
-use script::ScriptFault;
+use script::{Reason, ScriptFault};
 use umem_base::{NoMemory, ReadFile, WriteFault};
 
 /// Why no transcript was printed.
 #[derive(Clone, Copy, Debug, PartialEq, Eq)]
 pub enum Refusal {
+    /// The file has a bad line.
+    BadScript { line: u32, reason: Reason },
+    /// The script in the file can't be run.
     NoScript,
     NoFile,
     ReadFault,
@@ -22,7 +25,10 @@ impl From<ReadFile> for Refusal {
         match fault {
             ReadFile::Missing => Refusal::NoFile,
             ReadFile::ReadFault => Refusal::ReadFault,
-            ReadFile::TooLong => Refusal::NoScript,
+            ReadFile::TooLong => Refusal::BadScript {
+                line: 0,
+                reason: Reason::Limit,
+            },
             ReadFile::NoMemory => Refusal::NoMemory,
         }
     }
@@ -33,7 +39,7 @@ impl From<ScriptFault> for Refusal {
 
     fn from(fault: ScriptFault) -> Refusal {
         match fault {
-            ScriptFault::Bad => Refusal::NoScript,
+            ScriptFault::Bad { line, reason } => Refusal::BadScript { line, reason },
             ScriptFault::NoMemory => Refusal::NoMemory,
         }
     }

@@ -1,16 +1,17 @@
 ghost use Rattle.std.specs.Prelude.{◌≡◌, ℕ, ◌+◌, ◌^◌, ◌<◌, ◌≤◌, [], IfOk, OnOk, length, map, sum_by};
 ghost use Rattle.std.specs.List.{AllByRecursion};
-ghost use Rattle.script.specs.Plan.{IsOp, IsTurn, IsPlan, turn_of, turns_of, plan_of};
-ghost use Rattle.plain_heap.specs.Answers.{Answers, AreLowest, FollowsPhases};
-ghost use Rattle.plain_heap.specs.Replies.{IsLegal};
-ghost use Rattle.umem_cli.specs.Runs.{Enters, EntersAll};
+ghost use Rattle.script.specs.Plan.{turn_of, turns_of};
+ghost use Rattle.plain_heap.specs.FirstAnswers.{AreLowest, FollowsPhases};
+ghost use Rattle.plain_heap.specs.FirstReplies.{IsFirstLegal};
+ghost use Rattle.umem_cli.specs.Run.{AnswersPhases, Enters, EntersAll};
+ghost use Rattle.umem_cli.specs.Runnable.{IsMadeCall};
 
 use crate::tables::Tables;
 use plain_heap::{Body, Entry, History};
-use script::{Phase, Script, Step};
+use script::{Phase, Step};
 use std::alloc::Global;
 use std::marker::Model;
-use umem_base::NoMemory;
+use umem_base::{NoMemory, Sequence};
 
 /// A run of a script: the history so far, and beside it the tables, which say what it means. Contracts see
 /// the history.
@@ -21,11 +22,11 @@ pub struct Run {
 }
 
 impl Model for Run {
-    ghost use Rattle.umem_base.specs.Bounded.{Bounded};
+    ghost use Rattle.umem_base.specs.BoundedVec.{BoundedVec};
     ghost use Rattle.plain_heap.specs.declared.entry.Entry.{Entry as EntryData};
-    ghost use Rattle.umem_cli.specs.Runs.{IsRun};
+    ghost use Rattle.umem_cli.specs.Run.{IsRun};
 
-    ghost Value = { Bounded EntryData };
+    ghost Value = { BoundedVec EntryData };
 
     ghost view = { λ r. r.history };
 
@@ -47,7 +48,7 @@ impl Run {
     /// Makes the call of a step, and enters it with its answer.
     fn perform(&mut self, step: Step) -> Result<(), NoMemory>
         requires room { 0 < self.old.spare }
-        requires op { IsOp step.op }
+        requires op { IsMadeCall step.op }
         ensures entered { OnOk result (Enters self.old.items self.new.items step) }
         ensures spare { OnOk result (self.new.spare + 1 ≡ self.old.spare) }
     {
@@ -58,7 +59,7 @@ impl Run {
             thread: step.thread,
             body: Body::Call {
                 op: step.op,
-                stack: step.stack,
+                frames: Sequence::new(step.stack.into_vec()),
                 reply,
             },
         });
@@ -67,7 +68,7 @@ impl Run {
 
     fn into_history(self) -> History
         ensures history { result ≡ self }
-        ensures legal { IsLegal result.items }
+        ensures legal { IsFirstLegal result.items }
         ensures lowest { AreLowest result.items }
     {
         self.history
@@ -77,7 +78,7 @@ impl Run {
 /// Makes the calls of a phase, in the order of its steps.
 fn perform_phase(run: &mut Run, phase: Phase) -> Result<(), NoMemory>
     requires room { length phase.items ≤ run.old.spare }
-    requires ops { AllByRecursion (λ step. IsOp step.op) phase.items }
+    requires ops { AllByRecursion (λ step. IsMadeCall step.op) phase.items }
     ensures entered { OnOk result (EntersAll run.old.items run.new.items (turns_of phase)) }
     ensures spare { OnOk result (run.new.spare + length phase.items ≡ run.old.spare) }
 {
@@ -91,7 +92,7 @@ fn perform_phase(run: &mut Run, phase: Phase) -> Result<(), NoMemory>
 fn perform_phases(run: &mut Run, phases: Vec<Phase>) -> Result<(), NoMemory>
     requires empty { run.old.items ≡ [] }
     requires room { sum_by (λ phase. length phase.items) phases.items ≤ run.old.spare }
-    requires ops { AllByRecursion (λ phase. AllByRecursion (λ step. IsOp step.op) phase.items) phases.items }
+    requires ops { AllByRecursion (λ phase. AllByRecursion (λ step. IsMadeCall step.op) phase.items) phases.items }
     ensures followed { OnOk result (FollowsPhases (map turns_of phases.items) run.new.items) }
 {
     for phase in phases {
@@ -112,13 +113,14 @@ fn count_steps(phases: &[Phase]) -> u32
     count
 }
 
-/// Runs a script, and gives the history of its calls.
-pub fn history_of(alloc: Global, script: Script) -> Result<History, NoMemory>
-    requires { IsPlan (plan_of script) }
-    ensures { IfOk result (λ history. Answers (plan_of script) history.items) }
+/// Makes the calls of a script's phases, and gives their history.
+pub fn history_of(alloc: Global, phases: Sequence<Phase>) -> Result<History, NoMemory>
+    requires count { sum_by (λ phase. length phase.items) phases < 2 ^ 32 }
+    requires ops { AllByRecursion (λ phase. AllByRecursion (λ step. IsMadeCall step.op) phase.items) phases }
+    ensures { IfOk result (λ history. AnswersPhases (map turns_of phases) history.items) }
 {
-    let calls = count_steps(script.phases.as_slice());
+    let calls = count_steps(phases.as_slice());
     let mut run = Run::start(alloc, calls)?;
-    perform_phases(&mut run, script.phases.into_vec())?;
+    perform_phases(&mut run, phases.into_vec())?;
     Ok(run.into_history())
 }

@@ -1,11 +1,13 @@
 ghost use Rattle.std.specs.Prelude.{◌≡◌};
-ghost use Rattle.umem_cli.specs.Promise.{stream, seen, GivenOut, IsComplete};
+ghost use Rattle.umem_cli.specs.Streams.{stream, seen};
+ghost use Rattle.umem_cli.specs.Promise.{GivenOut, IsWholeRun};
 ghost use Rattle.umem_cli.specs.Outcomes.{PrintsOrRefuses, Refuses};
 
 use crate::job::Job;
 use crate::message::write_message;
 use crate::refusal::Refusal;
 use crate::run::history_of;
+use crate::runnable::is_runnable;
 use crate::status::Status;
 use plain_heap::transcript;
 use script::{MOST_BYTES, read_script};
@@ -14,8 +16,8 @@ use std::sync::Wait;
 use std::thread::Threads;
 use umem_base::{Folder, Gate, Sink, Text, WriteFault, read_file, write_whole};
 
-/// Runs the script in a file: reads it, makes its calls, and writes the transcript on `out` as one piece.
-/// A refusal is one line on `err`. The first event that ends the call decides its status.
+/// Makes the calls of the script in a file, and writes their transcript on `out`, all of it or, where that
+/// fails, a front. Where no call is made, `err` gets one line that says why.
 pub fn run_script<R: Threads + Wait + Sync, O: Sink, E: Sink, F: Folder, G: Gate + Sync>(
     _rt: &R,
     alloc: Global,
@@ -26,12 +28,12 @@ pub fn run_script<R: Threads + Wait + Sync, O: Sink, E: Sink, F: Folder, G: Gate
     _gate: &G,
 ) -> Status
     ensures given { GivenOut (F.files files.old) job.now.file
-        (seen (F.read_faults files.old) (stream (O.taken out.old) (O.faults out.old)) (stream (E.taken err.old) (E.faults err.old)))
-        (seen (F.read_faults files.new) (stream (O.taken out.new) (O.faults out.new)) (stream (E.taken err.new) (E.faults err.new)))
+        (seen (F.read_faults files.old) (O.taken out.old) (O.faults out.old) (E.taken err.old) (E.faults err.old))
+        (seen (F.read_faults files.new) (O.taken out.new) (O.faults out.new) (E.taken err.new) (E.faults err.new))
         result }
-    ensures complete { IsComplete (F.files files.old) job.now.file
-        (seen (F.read_faults files.old) (stream (O.taken out.old) (O.faults out.old)) (stream (E.taken err.old) (E.faults err.old)))
-        (seen (F.read_faults files.new) (stream (O.taken out.new) (O.faults out.new)) (stream (E.taken err.new) (E.faults err.new)))
+    ensures whole { IsWholeRun (F.files files.old) job.now.file
+        (seen (F.read_faults files.old) (O.taken out.old) (O.faults out.old) (E.taken err.old) (E.faults err.old))
+        (seen (F.read_faults files.new) (O.taken out.new) (O.faults out.new) (E.taken err.new) (E.faults err.new))
         result }
     ensures files { F.files files.new ≡ F.files files.old }
     ensures write_faults { F.write_faults files.new ≡ F.write_faults files.old }
@@ -56,19 +58,22 @@ fn print_transcript<O: Sink, F: Folder>(
 {
     let bytes = read_file(alloc, files, name, MOST_BYTES)?;
     let script = read_script(alloc, &bytes)?;
-    let header = script.header;
-    let history = history_of(alloc, script)?;
-    let text = transcript(alloc, &header, false, &history)?;
+    if !is_runnable(&script) {
+        return Err(Refusal::NoScript);
+    }
+    let history = history_of(alloc, script.phases)?;
+    let text = transcript(alloc, &script.header, false, &history)?;
     write_whole(out, text.as_slice())?;
     Ok(())
 }
 
 /// Writes the line of a refusal, if it has one, and gives the status.
 fn refuse<E: Sink>(err: &mut E, name: &Text, refusal: Refusal) -> Status
-    ensures { Refuses name.now refusal (stream (E.taken err.old) (E.faults err.old)) (stream (E.taken err.new) (E.faults err.new)) result }
+    ensures { Refuses name.now refusal
+        (stream (E.taken err.old) (E.faults err.old)) (stream (E.taken err.new) (E.faults err.new)) result }
 {
     let status = match refusal {
-        Refusal::NoScript => Status::BadScript,
+        Refusal::BadScript { .. } | Refusal::NoScript => Status::BadScript,
         Refusal::NoFile => Status::NoFile,
         Refusal::ReadFault => Status::ReadFault,
         Refusal::WriteFault => return Status::WriteFault,

@@ -1,5 +1,5 @@
 ghost use Rattle.std.specs.Prelude.{◌≡◌};
-ghost use Rattle.umem_cli.specs.Codes.{code_of};
+ghost use Rattle.umem_cli.specs.Status.{exit_number};
 
 /// How a call ended. The numbers are those of the program's exit.
 #[derive(Clone, Copy, Debug, PartialEq, Eq)]
@@ -9,7 +9,7 @@ pub enum Status {
     Refused,
     /// The words are no command.
     Usage,
-    /// The file is no script.
+    /// The file is no script, or one that can't be run.
     BadScript,
     /// The file is no core.
     BadCore,
@@ -25,7 +25,7 @@ pub enum Status {
 impl Status {
     /// The number that the program exits with.
     pub fn code(self) -> u8
-        ensures { result ≡ code_of self }
+        ensures { result ≡ exit_number self }
     {
         match self {
             Status::Done => 0,

@@ -1,25 +1,20 @@
 ghost use Rattle.std.specs.Prelude.{◌≡◌, ℕ, ◌+◌, ◌<◌, ◌≤◌, slice_index, IfOk, OnErr};
-ghost use Rattle.umem_base.specs.Pages.{pages_for};
-ghost use Rattle.script.specs.Plan.{IsOp};
+ghost use Rattle.umem_base.specs.declared.roots.TheConstants.{ROOT_WORDS};
 ghost use Rattle.script.specs.declared.operation.Op.TheVariants as operation;
-ghost use Rattle.plain_heap.specs.Meaning.{State, start, after_call};
-ghost use Rattle.plain_heap.specs.Replies.{IsReply};
-ghost use Rattle.plain_heap.specs.Answers.{TakesLowestAt};
-ghost use Rattle.umem_cli.specs.Tables.{AreTables, Describe};
+ghost use Rattle.plain_heap.specs.FirstMeaning.{start};
+ghost use Rattle.umem_cli.specs.Runnable.{IsMadeCall};
+ghost use Rattle.umem_cli.specs.Tables.{AreTables, Describe, AllowReply, AllowOnlyLowest, DescribeCall};
 
 use plain_heap::{Live, Reply, Report};
 use script::Op;
 use span_arena::Arena;
 use std::alloc::Global;
-use umem_base::NoMemory;
+use umem_base::{ARENA_BASE, NoMemory, ROOT_WORDS, arena_pages, pages_for};
 
-const SLOTS: usize = 512;
+const SLOTS: usize = ROOT_WORDS as usize;
 
-const PAGE_BYTES: u64 = 4096;
-
-const ARENA_BASE: u64 = 0x10_0000;
-
-const ARENA_PAGES: u64 = 1024;
+// Scripts of the first version are run.
+const VERSION: u32 = 1;
 
 /// The words of the slots, the buffers, and the pages that they have.
 #[derive(Drop)]
@@ -27,13 +22,6 @@ pub struct Tables {
     pub slots: [u64; SLOTS],
     pub live: Live,
     pub arena: Arena,
-}
-
-/// How many pages hold so many bytes.
-fn pages_for(size: u32) -> u64
-    ensures { result ≡ pages_for size }
-{
-    u64::from(size).div_ceil(PAGE_BYTES)
 }
 
 /// The words of the slots at the start.
@@ -53,7 +41,7 @@ impl Tables {
         Ok(Tables {
             slots: no_words(),
             live: Live::with_room(alloc, calls)?,
-            arena: Arena::new(alloc, ARENA_BASE, ARENA_PAGES),
+            arena: Arena::new(alloc, ARENA_BASE, arena_pages(VERSION)),
         })
     }
 
@@ -61,36 +49,37 @@ impl Tables {
     pub fn answer(&mut self, op: &Op) -> Result<Reply, NoMemory>
         requires tables { AreTables self.old }
         requires room { 0 < self.old.live.spare }
-        requires op { IsOp op.now }
+        requires op { IsMadeCall op.now }
         ensures tables { AreTables self.new }
         ensures spare { self.old.live.spare ≤ self.new.live.spare + 1 }
-        ensures allowed { IfOk result (λ reply. (state : State) → Describe self.old state → IsReply state op.now reply) }
-        ensures lowest { IfOk result (λ reply. (state : State) → Describe self.old state → TakesLowestAt state op.now reply) }
-        ensures described { IfOk result (λ reply. (state : State) → Describe self.old state → Describe self.new (after_call state op.now reply)) }
+        ensures allowed { IfOk result (λ reply. AllowReply self.old op.now reply) }
+        ensures lowest { IfOk result (λ reply. AllowOnlyLowest self.old op.now reply) }
+        ensures described { IfOk result (λ reply. DescribeCall self.old self.new op.now reply) }
         ensures err { OnErr result (self.new ≡ self.old) }
     {
         match op {
             Op::Alloc { slot, size } => self.allocate(*slot, *size),
             Op::Free { slot, size } => Ok(self.free(*slot, *size)),
+            _ => unreachable!(),
         }
     }
 
     fn allocate(&mut self, slot: u32, size: u32) -> Result<Reply, NoMemory>
         requires tables { AreTables self.old }
         requires room { 0 < self.old.live.spare }
-        requires slot { slot < 512 }
+        requires slot { slot < ROOT_WORDS }
         ensures tables { AreTables self.new }
         ensures spare { self.old.live.spare ≤ self.new.live.spare + 1 }
-        ensures allowed { IfOk result (λ reply. (state : State) → Describe self.old state → IsReply state (operation.Alloc slot size) reply) }
-        ensures lowest { IfOk result (λ reply. (state : State) → Describe self.old state → TakesLowestAt state (operation.Alloc slot size) reply) }
-        ensures described { IfOk result (λ reply. (state : State) → Describe self.old state → Describe self.new (after_call state (operation.Alloc slot size) reply)) }
+        ensures allowed { IfOk result (λ reply. AllowReply self.old (operation.Alloc slot size) reply) }
+        ensures lowest { IfOk result (λ reply. AllowOnlyLowest self.old (operation.Alloc slot size) reply) }
+        ensures described { IfOk result (λ reply. DescribeCall self.old self.new (operation.Alloc slot size) reply) }
         ensures err { OnErr result (self.new ≡ self.old) }
     {
         if size == 0 {
             self.slots[slot as usize] = 0;
             return Ok(Reply::Null);
         }
-        let Some(address) = self.arena.take(pages_for(size))? else {
+        let Some(address) = self.arena.take(pages_for(u64::from(size)))? else {
             self.slots[slot as usize] = 0;
             return Ok(Reply::NoSpace);
         };
@@ -104,11 +93,11 @@ impl Tables {
 
     fn free(&mut self, slot: u32, size: u32) -> Reply
         requires tables { AreTables self.old }
-        requires slot { slot < 512 }
+        requires slot { slot < ROOT_WORDS }
         ensures tables { AreTables self.new }
         ensures spare { self.old.live.spare ≡ self.new.live.spare }
-        ensures allowed { (state : State) → Describe self.old state → IsReply state (operation.Free slot size) result }
-        ensures described { (state : State) → Describe self.old state → Describe self.new (after_call state (operation.Free slot size) result) }
+        ensures allowed { AllowReply self.old (operation.Free slot size) result }
+        ensures described { DescribeCall self.old self.new (operation.Free slot size) result }
     {
         let address = self.slots[slot as usize];
         let reply = self.live.judge(&Op::Free { slot, size }, address, false);

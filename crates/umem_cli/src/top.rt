@@ -1,6 +1,8 @@
 ghost use Rattle.std.specs.Prelude.{◌≡◌, ℕ, List, map, MatchOption};
 ghost use Rattle.std.specs.String.{string_bytes};
-ghost use Rattle.umem_cli.specs.Promise.{stream, seen, GivenFor, IsCompleteFor, IsRunOf};
+ghost use Rattle.umem_cli.specs.Outcomes.{SaysUsage};
+ghost use Rattle.umem_cli.specs.Streams.{stream, seen};
+ghost use Rattle.umem_cli.specs.Promise.{GivenOutFor, IsWholeRunFor, IsRunOf};
 
 use crate::job::Job;
 use crate::message::write_usage;
@@ -23,13 +25,13 @@ pub fn umem<R: Threads + Wait + Sync, S: Source, O: Sink, E: Sink, F: Folder, G:
     files: &mut F,
     gate: &G,
 ) -> Status
-    ensures given { GivenFor (map string_bytes words.now) (F.files files.old)
-        (seen (F.read_faults files.old) (stream (O.taken out.old) (O.faults out.old)) (stream (E.taken err.old) (E.faults err.old)))
-        (seen (F.read_faults files.new) (stream (O.taken out.new) (O.faults out.new)) (stream (E.taken err.new) (E.faults err.new)))
+    ensures given { GivenOutFor (map string_bytes words.now) (F.files files.old)
+        (seen (F.read_faults files.old) (O.taken out.old) (O.faults out.old) (E.taken err.old) (E.faults err.old))
+        (seen (F.read_faults files.new) (O.taken out.new) (O.faults out.new) (E.taken err.new) (E.faults err.new))
         result }
-    ensures complete { IsCompleteFor (map string_bytes words.now) (F.files files.old)
-        (seen (F.read_faults files.old) (stream (O.taken out.old) (O.faults out.old)) (stream (E.taken err.old) (E.faults err.old)))
-        (seen (F.read_faults files.new) (stream (O.taken out.new) (O.faults out.new)) (stream (E.taken err.new) (E.faults err.new)))
+    ensures whole { IsWholeRunFor (map string_bytes words.now) (F.files files.old)
+        (seen (F.read_faults files.old) (O.taken out.old) (O.faults out.old) (E.taken err.old) (E.faults err.old))
+        (seen (F.read_faults files.new) (O.taken out.new) (O.faults out.new) (E.taken err.new) (E.faults err.new))
         result }
     ensures files { F.files files.new ≡ F.files files.old }
     ensures write_faults { F.write_faults files.new ≡ F.write_faults files.old }
@@ -37,10 +39,7 @@ pub fn umem<R: Threads + Wait + Sync, S: Source, O: Sink, E: Sink, F: Folder, G:
     ensures input_faults { S.faults _input.new ≡ S.faults _input.old }
 {
     let Some(name) = script_named(words) else {
-        return match write_usage(err) {
-            Ok(()) => Status::Usage,
-            Err(WriteFault) => Status::WriteFault,
-        };
+        return refuse_words(err);
     };
     match Text::from_slice(alloc, name) {
         Ok(file) => run_script(rt, alloc, &Job { file }, out, err, files, gate),
@@ -48,9 +47,21 @@ pub fn umem<R: Threads + Wait + Sync, S: Source, O: Sink, E: Sink, F: Folder, G:
     }
 }
 
+/// Writes the usage lines, and gives the status.
+pub fn refuse_words<E: Sink>(err: &mut E) -> Status
+    ensures { SaysUsage (stream (E.taken err.old) (E.faults err.old))
+        (stream (E.taken err.new) (E.faults err.new)) result }
+{
+    match write_usage(err) {
+        Ok(()) => Status::Usage,
+        Err(WriteFault) => Status::WriteFault,
+    }
+}
+
 /// The name of the file that is to be run, where the words are `run` and a name.
 fn script_named(words: &[String]) -> Option<&[u8]>
-    ensures { MatchOption result ((name : List ℕ) → ¬ IsRunOf (map string_bytes words.now) name) (λ name. IsRunOf (map string_bytes words.now) name.now) }
+    ensures { MatchOption result ((name : List ℕ) → ¬ IsRunOf (map string_bytes words.now) name)
+        (λ name. IsRunOf (map string_bytes words.now) name.now) }
 {
     match words {
         [mode, name] if mode.as_bytes() == b"run".as_slice() => Some(name.as_bytes()),

@@ -1,2 +1,2 @@
-pub mod Settings
-pub mod WithinLimits
+pub mod ItemsLemmas
+pub mod LimitsLemmas

@@ -4,17 +4,10 @@ ghost use Rattle.umem_options.specs.Limits.{IsOptions};
 
 use crate::flags::DebugFlags;
 use crate::item::DebugItem;
+use crate::limits::{DEFAULT_CONTENTS, DEFAULT_FRAMES, MOST_CONTENTS, MOST_FRAMES};
 use crate::options::Options;
 use bitflags::Flags;
 use umem_base::{BadNumber, read_decimal, split_once};
-
-const FRAMES: u32 = 15;
-
-const MOST_FRAMES: u32 = 32;
-
-const CONTENTS: u32 = 256;
-
-const MOST_CONTENTS: u32 = 4096;
 
 /// The options that the text of UMEM_DEBUG gives, as in umem_debug(3MALLOC): items between commas, taken
 /// from left to right, so that a later one wins. Items that it does not know mean nothing, a value that is
@@ -35,8 +28,8 @@ fn no_options() -> Options
 {
     Options {
         flags: DebugFlags::empty(),
-        frames: FRAMES,
-        contents: CONTENTS,
+        frames: DEFAULT_FRAMES,
+        contents: DEFAULT_CONTENTS,
     }
 }
 
@@ -47,7 +40,10 @@ fn after(options: Options, item: DebugItem) -> Options
         DebugItem::Audit(frames) => audited(options, frames),
         DebugItem::Contents(count) => with_contents(options, count),
         DebugItem::Guards => guarded(options),
-        DebugItem::Default => guarded(with_contents(audited(options, FRAMES), CONTENTS)),
+        DebugItem::Default => {
+            let options = audited(options, DEFAULT_FRAMES);
+            guarded(with_contents(options, DEFAULT_CONTENTS))
+        }
         DebugItem::Unknown => options,
     }
 }
@@ -95,9 +91,9 @@ fn debug_name(name: &[u8]) -> DebugItem
     ensures { result ≡ debug_name name.now }
 {
     if name == b"audit".as_slice() {
-        DebugItem::Audit(FRAMES)
+        DebugItem::Audit(DEFAULT_FRAMES)
     } else if name == b"contents".as_slice() {
-        DebugItem::Contents(CONTENTS)
+        DebugItem::Contents(DEFAULT_CONTENTS)
     } else if name == b"guards".as_slice() {
         DebugItem::Guards
     } else if name == b"default".as_slice() {
@@ -111,9 +107,9 @@ fn debug_setting(name: &[u8], value: &[u8]) -> DebugItem
     ensures { result ≡ debug_setting name.now value.now }
 {
     if name == b"audit".as_slice() {
-        DebugItem::Audit(count_of(FRAMES, MOST_FRAMES, value))
+        DebugItem::Audit(count_of(DEFAULT_FRAMES, MOST_FRAMES, value))
     } else if name == b"contents".as_slice() {
-        DebugItem::Contents(count_of(CONTENTS, MOST_CONTENTS, value))
+        DebugItem::Contents(count_of(DEFAULT_CONTENTS, MOST_CONTENTS, value))
     } else {
         DebugItem::Unknown
     }

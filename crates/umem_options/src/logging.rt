@@ -3,12 +3,9 @@ ghost use Rattle.umem_options.specs.Logging.{unit_of, unit_at_end, before_unit, 
 ghost use Rattle.umem_options.specs.Limits.{IsLogging};
 
 use crate::item::LoggingItem;
+use crate::limits::{DEFAULT_LOG_BYTES, MOST_LOG_BYTES};
 use crate::options::Logging;
 use umem_base::{read_decimal, split_once};
-
-const DEFAULT_SIZE: u64 = 65536;
-
-const SIZE_LIMIT: u64 = 67_108_864;
 
 /// The sizes of the logs that the text of UMEM_LOGGING gives, as in umem_debug(3MALLOC): items between
 /// commas, taken from left to right, so that a later one wins. A size is decimal digits, and at most one of
@@ -51,7 +48,7 @@ fn logging_item(item: &[u8]) -> LoggingItem
     ensures { result ≡ logging_item item.now }
 {
     match split_once(item, b'=') {
-        None => log_named(item, DEFAULT_SIZE),
+        None => log_named(item, DEFAULT_LOG_BYTES),
         Some((name, value)) => log_named(name, size_of(value)),
     }
 }
@@ -84,7 +81,7 @@ fn bytes_in(count: u64, unit: u64) -> u64
     ensures { result ≡ bytes_in count unit }
 {
     match count.checked_mul(unit) {
-        Some(size) if size <= SIZE_LIMIT => size,
+        Some(size) if size <= MOST_LOG_BYTES => size,
         _ => 0,
     }
 }

@@ -64,27 +64,41 @@ fn logging_texts(rt: HostRuntime) {
     logging(&rt, b"contents=3,contents=x", 0, 0, 0);
 }
 
-fn records(rt: &impl Abort, debug: &[u8], logging: &[u8], transactions: u32, fails: u32) {
+fn records(
+    rt: &impl Abort,
+    debug: &[u8],
+    logging: &[u8],
+    transactions: u32,
+    contents: u32,
+    fails: u32,
+) {
     let logging = read_logging(logging);
-    assert_eq!(rt;
-        transaction_records(&logging, &read_debug(debug)),
-        transactions
-    );
+    let options = read_debug(debug);
+    assert_eq!(rt; transaction_records(&logging, &options), transactions);
+    assert_eq!(rt; contents_records(&logging, &options), contents);
     assert_eq!(rt; fail_records(&logging), fails);
 }
 
 #[test]
 fn capacities(rt: HostRuntime) {
-    records(&rt, b"default", b"transaction", 356, 0);
-    records(&rt, b"guards", b"transaction", 0, 0);
-    records(&rt, b"guards", b"fail", 0, 2730);
-    records(&rt, b"audit=x,foo", b"transaction=0,contents=1Q", 0, 0);
+    records(&rt, b"default", b"transaction", 356, 0, 0);
+    records(&rt, b"guards", b"transaction", 0, 0, 0);
+    records(&rt, b"guards", b"fail", 0, 0, 2730);
+    records(&rt, b"audit=x,foo", b"transaction=0,contents=1Q", 0, 0, 0);
     records(
         &rt,
         b"audit=33,contents=4097",
         b"transaction=65537k,fail=64M",
         0,
-        2796202,
+        0,
+        2_796_202,
     );
-    records(&rt, b"audit=0", b"transaction=64M", 1048576, 0);
+    records(&rt, b"audit=0", b"transaction=64M", 1_048_576, 0, 0);
+    // Of each freed buffer 256 bytes are kept, or as many as the option says.
+    records(&rt, b"default", b"contents=1k", 0, 3, 0);
+    records(&rt, b"audit", b"contents=1k", 0, 3, 0);
+    records(&rt, b"audit,contents=0", b"contents=1k", 0, 42, 0);
+    records(&rt, b"audit,contents=4096", b"contents=64m", 0, 16_288, 0);
+    records(&rt, b"audit,contents=0", b"contents=64m", 0, 2_796_202, 0);
+    records(&rt, b"contents,guards", b"contents=1k", 0, 0, 0);
 }

@@ -3,10 +3,11 @@ ghost use Rattle.std.specs.Option.{option_map};
 ghost use Rattle.umem_base.specs.Faults.{Counts};
 ghost use Rattle.umem_base.specs.Folder.{Files, Activity, IsReading, IsWriting, Opens, ReadsOn, Sets, Grows, told_name, left_of};
 ghost use Rattle.umem_base.specs.Folder as folder;
-ghost use Rattle.umem_base.specs.Memory.{IsFirstAt, file_named, contents, fails_next, create_fails, append_fails, after_call, counted_if};
+ghost use Rattle.umem_base.specs.FaultPlan.{fails_next, after_next_call, counted_if};
+ghost use Rattle.umem_base.specs.MemFolder.{IsFirstAt, file_named, contents, create_fails, append_fails, activity_after_read, with_file_bytes, with_appended};
 
+use super::fault_plan::FaultPlan;
 use super::open::Open;
-use super::plan::Plan;
 use super::table::Table;
 use crate::no_memory::NoMemory;
 use crate::outside::{Failed, Folder};
@@ -19,20 +20,20 @@ use std::marker::Model;
 pub struct MemFolder {
     files: Table,
     opened: Open,
-    plan: Plan,
+    plan: FaultPlan,
     read_faults: u64,
     write_faults: u64,
 }
 
 impl Model for MemFolder {
-    ghost use Rattle.umem_base.specs.Files.{activity_of, IsOpenFile};
-    ghost use Rattle.umem_base.specs.Memory.{FolderState};
+    ghost use Rattle.umem_base.specs.Files.{activity_in, IsOpenFile};
+    ghost use Rattle.umem_base.specs.MemFolder.{MemFolder};
 
-    ghost Value = { FolderState };
+    ghost Value = { MemFolder };
 
     ghost view = { λ f. record {
       files = f.files;
-      activity = activity_of f.files f.opened;
+      activity = activity_in f.files f.opened;
       plan = f.plan;
       read_faults = f.read_faults;
       write_faults = f.write_faults;
@@ -53,20 +54,24 @@ impl MemFolder {
         MemFolder {
             files: Table::new(alloc),
             opened: Open::Nothing,
-            plan: Plan::new(failing),
+            plan: FaultPlan::new(failing),
             read_faults: 0,
             write_faults: 0,
         }
     }
 
-    /// Gives the file these bytes, and takes the memory for `room` bytes after a creation. It hides an older
-    /// file of that name. The folder is then idle; on refusal it is as before.
+    /// Puts a file of these bytes, which can be created again with room for so many. It hides an older file of
+    /// that name. The folder is then idle; on refusal it is as before.
     pub fn put(&mut self, name: &Text, bytes: &[u8], room: usize) -> Result<(), NoMemory>
-        ensures put { OnOk result (file_named self.new.files name.now ≡ Some (record { name = name.now; bytes = bytes.now; room = room })) }
-        ensures others { (other : List ℕ) → other ≢ name.now → file_named self.new.files other ≡ file_named self.old.files other }
+        ensures put { OnOk result (file_named self.new.files name.now
+            ≡ Some (record { name = name.now; bytes = bytes.now; room = room })) }
+        ensures others { (other : List ℕ) → other ≢ name.now →
+            file_named self.new.files other ≡ file_named self.old.files other }
         ensures activity { OnOk result (self.new.activity ≡ folder.Idle) }
         ensures err { OnErr result (self.new ≡ self.old) }
-        ensures kept { (self.new.plan ≡ self.old.plan) × (self.new.read_faults ≡ self.old.read_faults) × (self.new.write_faults ≡ self.old.write_faults) }
+        ensures plan { self.new.plan ≡ self.old.plan }
+        ensures read_faults { self.new.read_faults ≡ self.old.read_faults }
+        ensures write_faults { self.new.write_faults ≡ self.old.write_faults }
     {
         self.files.add(name, bytes, room)?;
         self.opened = Open::Nothing;
@@ -95,7 +100,7 @@ impl Folder for MemFolder {
         ensures opens { Opens (Some (contents self.old.files)) name.now self.old.activity self.new.activity result }
         ensures files { self.new.files ≡ self.old.files }
         ensures fails { is_err result ≡ fails_next self.old.plan }
-        ensures plan { self.new.plan ≡ after_call self.old.plan }
+        ensures plan { self.new.plan ≡ after_next_call self.old.plan }
         ensures read_faults { self.new.read_faults ≡ counted_if (is_err result) self.old.read_faults }
         ensures cause { Counts self.old.read_faults self.new.read_faults result }
         ensures write_faults { self.new.write_faults ≡ self.old.write_faults }
@@ -116,9 +121,10 @@ impl Folder for MemFolder {
         requires { IsReading self.old.activity }
         ensures bound { IfOk result (λ n. n ≤ length buffer.new) }
         ensures moved { ReadsOn self.old.activity self.new.activity result buffer.new }
+        ensures activity { self.new.activity ≡ activity_after_read self.old (length buffer.old) }
         ensures files { self.new.files ≡ self.old.files }
         ensures fails { is_err result ≡ fails_next self.old.plan }
-        ensures plan { self.new.plan ≡ after_call self.old.plan }
+        ensures plan { self.new.plan ≡ after_next_call self.old.plan }
         ensures read_faults { self.new.read_faults ≡ counted_if (is_err result) self.old.read_faults }
         ensures cause { Counts self.old.read_faults self.new.read_faults result }
         ensures write_faults { self.new.write_faults ≡ self.old.write_faults }
@@ -143,10 +149,12 @@ impl Folder for MemFolder {
     /// It fails where the name was never put.
     fn create(&mut self, name: &Text) -> Result<(), Failed>
         ensures writing { OnOk result (self.new.activity ≡ folder.Writing (Some name.now)) }
-        ensures emptied { OnOk result (Sets (Some (contents self.old.files)) (Some (contents self.new.files)) name.now (Some [])) }
+        ensures emptied { OnOk result
+            (Sets (Some (contents self.old.files)) (Some (contents self.new.files)) name.now (Some [])) }
+        ensures files { OnOk result (self.new.files ≡ with_file_bytes self.old.files name.now []) }
         ensures err { OnErr result ((self.new.activity ≡ self.old.activity) × (self.new.files ≡ self.old.files)) }
         ensures fails { is_err result ≡ create_fails self.old name.now }
-        ensures plan { self.new.plan ≡ after_call self.old.plan }
+        ensures plan { self.new.plan ≡ after_next_call self.old.plan }
         ensures write_faults { self.new.write_faults ≡ counted_if (is_err result) self.old.write_faults }
         ensures cause { Counts self.old.write_faults self.new.write_faults result }
         ensures read_faults { self.new.read_faults ≡ self.old.read_faults }
@@ -167,11 +175,13 @@ impl Folder for MemFolder {
         requires { IsWriting self.old.activity }
         ensures bound { IfOk result (λ n. n ≤ length bytes.now) }
         ensures whole { IfOk result (λ n. n ≡ length bytes.now) }
-        ensures grows { IfOk result (λ n. Grows self.old.activity (Some (contents self.old.files)) (Some (contents self.new.files)) (take n bytes.now)) }
+        ensures grows { IfOk result (λ n. Grows self.old.activity
+            (Some (contents self.old.files)) (Some (contents self.new.files)) (take n bytes.now)) }
+        ensures files { OnOk result (self.new.files ≡ with_appended self.old.files self.old.activity bytes.now) }
         ensures activity { self.new.activity ≡ self.old.activity }
         ensures err { OnErr result (self.new.files ≡ self.old.files) }
         ensures fails { is_err result ≡ append_fails self.old bytes.now }
-        ensures plan { self.new.plan ≡ after_call self.old.plan }
+        ensures plan { self.new.plan ≡ after_next_call self.old.plan }
         ensures write_faults { self.new.write_faults ≡ counted_if (is_err result) self.old.write_faults }
         ensures cause { Counts self.old.write_faults self.new.write_faults result }
         ensures read_faults { self.new.read_faults ≡ self.old.read_faults }

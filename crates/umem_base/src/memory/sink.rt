@@ -1,9 +1,9 @@
 ghost use Rattle.std.specs.Prelude.{◌≡◌, ◌<◌, ◌≤◌, [], Some, length, is_err, IfOk};
 ghost use Rattle.std.specs.Io.KnownBytes.{WriteAppends};
 ghost use Rattle.umem_base.specs.Faults.{Counts};
-ghost use Rattle.umem_base.specs.Memory.{piece_of, write_fails, after_write};
+ghost use Rattle.umem_base.specs.MemSink.{piece_of, write_fails, after_write};
 
-use super::plan::Plan;
+use super::fault_plan::FaultPlan;
 use crate::no_memory::NoMemory;
 use crate::outside::{Failed, Sink};
 use std::alloc::Global;
@@ -15,17 +15,23 @@ pub struct MemSink {
     taken: Vec<u8>,
     most: usize,
     room: usize,
-    plan: Plan,
+    plan: FaultPlan,
     faults: u64,
 }
 
 impl Model for MemSink {
     ghost use Rattle.std.specs.Prelude.{◌≤◌, vec_len, vec_capacity};
-    ghost use Rattle.umem_base.specs.Memory.{SinkState};
+    ghost use Rattle.umem_base.specs.MemSink.{MemSink};
 
-    ghost Value = { SinkState };
+    ghost Value = { MemSink };
 
-    ghost view = { λ s. record { taken = s.taken.items; most = s.most; room = s.room; plan = s.plan; faults = s.faults } };
+    ghost view = { λ s. record {
+      taken = s.taken.items;
+      most = s.most;
+      room = s.room;
+      plan = s.plan;
+      faults = s.faults;
+    } };
 
     ghost invariant = { λ s. (1 ≤ s.most) × (vec_len s.taken ≤ s.room) × (s.room ≤ vec_capacity s.taken) };
 }
@@ -49,7 +55,7 @@ impl MemSink {
             taken: Vec::with_capacity(alloc, room)?,
             most,
             room,
-            plan: Plan::new(failing),
+            plan: FaultPlan::new(failing),
             faults: 0,
         })
     }
@@ -67,8 +73,7 @@ impl Sink for MemSink {
 
     ghost faults = { λ s. s.faults };
 
-    /// Takes the whole piece, or its first `most` bytes where it is longer. It fails where that is more
-    /// than there is room for.
+    /// Takes as much of the piece as one write may. It fails where there is no room for that.
     fn write(&mut self, bytes: &[u8]) -> Result<usize, Failed>
         ensures bound { IfOk result (λ n. n ≤ length bytes.now) }
         ensures progress { 0 < length bytes.now → IfOk result (λ n. 0 < n) }

@@ -1,9 +1,10 @@
 ghost use Rattle.std.specs.Prelude.{◌≡◌, ◌≤◌, Some, min, length, take, is_err, IfOk};
 ghost use Rattle.std.specs.Io.KnownBytes.{ReadConsumes};
 ghost use Rattle.umem_base.specs.Faults.{Counts};
-ghost use Rattle.umem_base.specs.Memory.{fails_next, after_read};
+ghost use Rattle.umem_base.specs.FaultPlan.{fails_next};
+ghost use Rattle.umem_base.specs.MemSource.{after_read};
 
-use super::plan::Plan;
+use super::fault_plan::FaultPlan;
 use crate::outside::{Failed, Source};
 use std::marker::Model;
 
@@ -12,15 +13,15 @@ use std::marker::Model;
 pub struct MemSource {
     bytes: Vec<u8>,
     at: usize,
-    plan: Plan,
+    plan: FaultPlan,
     faults: u64,
 }
 
 impl Model for MemSource {
     ghost use Rattle.std.specs.Prelude.{◌≤◌, drop, vec_len};
-    ghost use Rattle.umem_base.specs.Memory.{SourceState};
+    ghost use Rattle.umem_base.specs.MemSource.{MemSource};
 
-    ghost Value = { SourceState };
+    ghost Value = { MemSource };
 
     ghost view = { λ s. record { left = drop s.at s.bytes.items; plan = s.plan; faults = s.faults } };
 
@@ -37,7 +38,7 @@ impl MemSource {
         MemSource {
             bytes,
             at: 0,
-            plan: Plan::new(failing),
+            plan: FaultPlan::new(failing),
             faults: 0,
         }
     }

@@ -1,7 +1,7 @@
 ghost use Rattle.std.specs.Prelude.{◌≡◌, ◌<◌, [], ◌∷◌, ◌++◌, length, Some, None, IfSome, OnOk, OnErr, MatchOption, slice_get};
 ghost use Rattle.std.specs.Bool.{OnTrue, OnFalse};
 ghost use Rattle.umem_base.specs.Files.{files_of};
-ghost use Rattle.umem_base.specs.Memory.{IsFirstAt, file_named, ChangesAt, HasRoomAt};
+ghost use Rattle.umem_base.specs.MemFolder.{IsFirstAt, file_named, ChangesAt, HasRoomAt};
 
 use super::file::File;
 use crate::no_memory::NoMemory;
@@ -17,7 +17,7 @@ pub(crate) struct Table {
 
 impl Model for Table {
     ghost use Rattle.std.specs.Prelude.{List};
-    ghost use Rattle.umem_base.specs.Memory.{MemoryFile};
+    ghost use Rattle.umem_base.specs.MemFolder.{MemoryFile};
 
     ghost Value = { List MemoryFile };
 
@@ -36,7 +36,8 @@ impl Table {
     }
 
     pub(crate) fn add(&mut self, name: &Text, bytes: &[u8], room: usize) -> Result<(), NoMemory>
-        ensures ok { OnOk result (self.new ≡ record { name = name.now; bytes = bytes.now; room = room } ∷ self.old) }
+        ensures ok { OnOk result
+            (self.new ≡ record { name = name.now; bytes = bytes.now; room = room } ∷ self.old) }
         ensures err { OnErr result (self.new ≡ self.old) }
     {
         let alloc = *self.files.allocator();
@@ -91,7 +92,8 @@ impl Table {
 }
 
 fn place_of(files: &[File], name: &Text) -> Option<usize>
-    ensures { MatchOption result (file_named (files_of files.now) name.now ≡ None) (IsFirstAt (files_of files.now) name.now) }
+    ensures { MatchOption result (file_named (files_of files.now) name.now ≡ None)
+        (IsFirstAt (files_of files.now) name.now) }
 {
     for (place, file) in files.iter().enumerate() {
         if file.name.as_slice() == name.as_slice() {

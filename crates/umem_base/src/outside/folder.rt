@@ -27,8 +27,8 @@ pub trait Folder {
         ensures cause { Counts (read_faults self.old) (read_faults self.new) result }
         ensures write_faults { write_faults self.new ≡ write_faults self.old };
 
-    /// Moves the next bytes of the open file into the front of the buffer, and answers how many. It is 0
-    /// only at the end or for an empty buffer. After a fault everything is as before.
+    /// Moves the next bytes of the open file into the front of the buffer, and answers how many. A buffer that is
+    /// not empty gets one or more, unless the file has ended. After a fault everything is as before but the buffer.
     fn read(&mut self, buffer: &mut [u8]) -> Result<usize, Failed>
         requires { IsReading (activity self.old) }
         ensures bound { IfOk result (λ n. n ≤ length buffer.new) }
@@ -52,7 +52,8 @@ pub trait Folder {
         requires { IsWriting (activity self.old) }
         ensures bound { IfOk result (λ n. n ≤ length bytes.now) }
         ensures progress { 0 < length bytes.now → IfOk result (λ n. 0 < n) }
-        ensures grows { IfOk result (λ n. Grows (activity self.old) (files self.old) (files self.new) (take n bytes.now)) }
+        ensures grows { IfOk result
+            (λ n. Grows (activity self.old) (files self.old) (files self.new) (take n bytes.now)) }
         ensures activity { activity self.new ≡ activity self.old }
         ensures err { OnErr result (files self.new ≡ files self.old) }
         ensures cause { Counts (write_faults self.old) (write_faults self.new) result }

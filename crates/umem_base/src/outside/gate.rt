@@ -1,7 +1,7 @@
 /// What a worker passes before each of its calls, so that a test can choose an interleaving.
 pub trait Gate {
-    /// A worker calls this once for its call number `call`, counted from 0 for each thread, after the call
-    /// before is committed. It is given the two numbers alone, so it changes nothing of the run.
+    /// Comes once before each call of a thread and after its earlier ones. `call` is how many those are. A gate
+    /// sees nothing else of a run.
     fn pass(&self, thread: u32, call: u32);
 }
 

@@ -12,8 +12,8 @@ pub trait Source {
     /// How often it has failed.
     ghost faults: { Self → ℕ };
 
-    /// Moves the first bytes that are left into the front of the buffer, and answers how many. It is 0
-    /// only at the end or for an empty buffer. After a fault the bytes that are left are as before.
+    /// Moves the first bytes that are left into the front of the buffer, and answers how many. A buffer that is
+    /// not empty gets one or more, unless none is left. After a fault the bytes that are left are as before.
     fn read(&mut self, buffer: &mut [u8]) -> Result<usize, Failed>
         ensures bound { IfOk result (λ n. n ≤ length buffer.new) }
         ensures moved { ReadConsumes (left self.old) (left self.new) result buffer.new }

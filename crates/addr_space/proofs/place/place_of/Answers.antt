@@ -1,5 +1,5 @@
 use Rattle.std.proofs.Common.{◌-◌, ◌<◌, length, arith}
-use Rattle.addr_space.proofs.Order.{no_place}
+use Rattle.addr_space.proofs.SpaceLemmas.{no_place}
 use Rattle.addr_space.proofs.place.place_of.Goals as goal
 
 pub returns-then-count-bytes : goal.returns-then-count-bytes

@@ -1,5 +1,5 @@
 use Rattle.std.proofs.Common.{◌∙◌, sym}
-use Rattle.buftag.proofs.RowLemmas.{found_row, found_no_row}
+use Rattle.buftag.proofs.RowsLemmas.{found_row, found_no_row}
 use Rattle.buftag.proofs.check.first_broken.Goals as goal
 
 pub returns-in_err-row : goal.returns-in_err-row

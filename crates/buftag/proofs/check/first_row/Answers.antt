@@ -1,4 +1,4 @@
-use Rattle.buftag.proofs.RowLemmas.{same_place}
+use Rattle.buftag.proofs.RowsLemmas.{same_place}
 use Rattle.buftag.proofs.check.first_row.Goals as goal
 
 pub returns : goal.returns

@@ -1,4 +1,4 @@
-use Rattle.buftag.proofs.Marks.{marks-allocated}
+use Rattle.buftag.proofs.LawsLemmas.{marks-allocated}
 use Rattle.buftag.proofs.laws.allocated_chunks_without_a_finding_have_their_marks.Goals as goal
 
 pub returns : goal.returns

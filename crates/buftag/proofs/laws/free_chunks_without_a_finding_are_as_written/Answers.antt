@@ -1,4 +1,4 @@
-use Rattle.buftag.proofs.Intact.{intact-free}
+use Rattle.buftag.proofs.LawsLemmas.{intact-free}
 use Rattle.buftag.proofs.laws.free_chunks_without_a_finding_are_as_written.Goals as goal
 
 pub returns : goal.returns

@@ -1,5 +1,4 @@
-use Rattle.buftag.proofs.AllocatedChunks.{finding-allocated_chunk, length-allocated_chunk}
-use Rattle.buftag.proofs.Whole.{finding-free_chunk, length-free_chunk}
+use Rattle.buftag.proofs.WrittenLemmas.{finding-allocated_chunk, finding-free_chunk, length-allocated_chunk, length-free_chunk}
 use Rattle.buftag.proofs.laws.written_chunks_are_whole.Goals as goal
 
 pub returns-clause-free_length : goal.returns-clause-free_length

@@ -1,4 +1,4 @@
-use Rattle.buftag.proofs.Whole.{finding-free_chunk}
+use Rattle.buftag.proofs.WrittenLemmas.{finding-free_chunk}
 use Rattle.buftag.proofs.write.write_free.Goals as goal
 
 pub returns-clause-written : goal.returns-clause-written

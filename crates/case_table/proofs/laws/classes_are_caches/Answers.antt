@@ -1,5 +1,5 @@
 use Rattle.std.proofs.Common.{refl}
-use Rattle.case_table.proofs.SizeLemmas.{size_of-some, size_of-small, size_of-words}
+use Rattle.case_table.proofs.SizesLemmas.{size_of-some, size_of-small, size_of-words}
 use Rattle.case_table.proofs.laws.classes_are_caches.Goals as goal
 
 pub returns-clause-shape : goal.returns-clause-shape

@@ -1,4 +1,4 @@
-use Rattle.case_table.proofs.SizeLemmas.{least_from_class, class_from_least}
+use Rattle.case_table.proofs.SizesLemmas.{least_from_class, class_from_least}
 use Rattle.case_table.proofs.laws.classes_are_the_least.Goals as goal
 
 pub returns-clause-least : goal.returns-clause-least

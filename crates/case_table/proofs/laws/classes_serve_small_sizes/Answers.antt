@@ -1,4 +1,4 @@
-use Rattle.case_table.proofs.SizeLemmas.{class_for-small, class_for-large}
+use Rattle.case_table.proofs.SizesLemmas.{class_for-small, class_for-large}
 use Rattle.case_table.proofs.laws.classes_serve_small_sizes.Goals as goal
 
 pub returns-clause-small : goal.returns-clause-small

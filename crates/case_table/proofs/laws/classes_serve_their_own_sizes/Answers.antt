@@ -1,4 +1,4 @@
-use Rattle.case_table.proofs.SizeLemmas.{class_for-own, size_of-rises}
+use Rattle.case_table.proofs.SizesLemmas.{class_for-own, size_of-rises}
 use Rattle.case_table.proofs.laws.classes_serve_their_own_sizes.Goals as goal
 
 pub returns-clause-own : goal.returns-clause-own

@@ -1,6 +1,6 @@
 use Rattle.std.proofs.Common.{◌≤◌, sym, ◌∙◌, inl, inr, refl, arith}
 use Rattle.case_table.specs.Sizes.{class_sizes}
-use Rattle.case_table.proofs.SizeLemmas.{class_for-value, class_for-zero, least_from_position, large_from_none, size_of-small}
+use Rattle.case_table.proofs.SizesLemmas.{class_for-value, class_for-zero, least_from_position, large_from_none, size_of-small}
 use Rattle.case_table.proofs.size_classes.class_of.Goals as goal
 
 pub returns-then-size-eq0-clause-value : goal.returns-then-size-eq0-clause-value

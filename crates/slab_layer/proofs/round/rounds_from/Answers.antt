@@ -1,6 +1,6 @@
 use Rattle.std.proofs.Common.{◌∙◌, add-one, ap, arith, length, sym}
 use Rattle.std.proofs.lemmas.List.FromFn.{length-range_with_len}
-use Rattle.slab_layer.proofs.Numbers.{AreConsecutive-range, range_more}
+use Rattle.slab_layer.proofs.RoundsLemmas.{AreConsecutive-range, range_more}
 use Rattle.slab_layer.proofs.round.rounds_from.Goals as goal
 
 pub loop-index-preserved : goal.loop-index-preserved

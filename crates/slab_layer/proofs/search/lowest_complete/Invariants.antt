@@ -1,4 +1,4 @@
-use Rattle.slab_layer.proofs.Lowest.{IsLowestBefore}
+use Rattle.slab_layer.proofs.SlabsLemmas.{IsLowestBefore}
 use Rattle.slab_layer.proofs.search.lowest_complete.Given as goal
 
 abbrev pub invariant-loop-index : goal.invariant-loop-index

@@ -1,4 +1,4 @@
-use Rattle.trans_log.proofs.Entered.{entered-all}
+use Rattle.trans_log.proofs.LastLemmas.{entered-all}
 use Rattle.trans_log.proofs.laws.entering_keeps_the_last.Goals as goal
 
 pub returns-clause-all : goal.returns-clause-all

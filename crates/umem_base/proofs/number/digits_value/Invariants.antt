@@ -4,6 +4,6 @@ use Rattle.umem_base.proofs.number.digits_value.Given as goal
 
 abbrev pub invariant-loop-digit : goal.invariant-loop-digit
 invariant-loop-digit l = record {
-  value : l.value ≡ digits_value 10 (take l.digit-index l.digits);
+  value : l.value ≡ digits_value l.radix (take l.digit-index l.digits);
   fits : l.value < 2 ^ 64;
 }

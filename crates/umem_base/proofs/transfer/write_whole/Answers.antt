@@ -1,6 +1,6 @@
 use Rattle.std.proofs.Common.{◌≡◌, ◌-◌, length, take, drop, take-add, length-drop, arith}
 use Rattle.std.proofs.lemmas.List.{take_all}
-use Rattle.umem_base.proofs.Known.{appends_more}
+use Rattle.umem_base.proofs.TransferLemmas.{appends_more}
 use Rattle.umem_base.proofs.transfer.write_whole.Goals as goal
 
 pub loop-at-preserved : goal.loop-at-preserved

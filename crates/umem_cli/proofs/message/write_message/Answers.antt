@@ -1,9 +1,8 @@
 use Rattle.std.proofs.Common.{ℕ, List, ◌++◌, subst}
 use Rattle.std.specs.Prelude.{codes}
 use Rattle.std.specs.Io.KnownBytes.{Appends}
-use Rattle.umem_base.specs.Transfer.{WritesWhole}
 use Rattle.umem_cli.specs.Messages.{reason_text}
-use Rattle.umem_cli.proofs.Streams.{Front, front_more, front_behind, front_written, whole_behind}
+use Rattle.umem_cli.proofs.MessagesLemmas.{Front, front_more, front_behind, front_written, whole_behind}
 use Rattle.umem_cli.proofs.message.write_message.Goals as goal
 
 pub returns-in_err-write_whole-clause-taken : goal.returns-in_err-write_whole-clause-taken
@@ -29,9 +28,8 @@ returns-clause-taken g c =
     let start = g.E.Sink.taken c.args.err.now in
     let first = g.E.Sink.taken c.write_whole.new.to in
     let second = g.E.Sink.taken c.write_whole-2.new.to in
-    let third = g.E.Sink.taken c.write_whole-3.new.to in
+    let third = g.E.Sink.taken c.write_reason.new.err in
     let name = c.args.name.now in
     let reason = reason_text c.args.refusal in
     let middle = subst (λ (l : List ℕ). Appends first second l) c.as_slice.ensures c.in_ok-write_whole-2.ensures.taken in
-    let last = subst (λ (l : List ℕ). WritesWhole second third l c.write_whole-3.result) c.reason.ensures c.write_whole-3.ensures.taken in
-    whole_behind start first third (codes "umem: ") (name ++ reason) c.write_whole-3.result c.in_ok-write_whole.ensures.taken (whole_behind first second third name reason c.write_whole-3.result middle last)
+    whole_behind start first third (codes "umem: ") (name ++ reason) c.write_reason.result c.in_ok-write_whole.ensures.taken (whole_behind first second third name reason c.write_reason.result middle c.write_reason.ensures.taken)

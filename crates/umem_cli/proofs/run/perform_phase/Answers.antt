@@ -1,7 +1,7 @@
 use Rattle.std.proofs.Common.{◌++◌, [], ◌∷◌, map, sym, ap, ◌∙◌, arith}
 use Rattle.std.proofs.lemmas.List.{map-append, append_assoc, length_push}
 use Rattle.script.specs.Plan.{turn_of}
-use Rattle.umem_cli.proofs.Histories.{enters_more}
+use Rattle.umem_cli.proofs.RunLemmas.{enters_more}
 use Rattle.umem_cli.proofs.run.perform_phase.Goals as goal
 
 pub loop-step-preserved : goal.loop-step-preserved

@@ -1,7 +1,7 @@
 use Rattle.std.proofs.Common.{◌≡◌, ◌+◌, ◌++◌, length, map}
 use Rattle.std.specs.Vec.Iter.{into_iter_items}
 use Rattle.script.specs.Plan.{turn_of}
-use Rattle.umem_cli.specs.Runs.{EntersAll}
+use Rattle.umem_cli.specs.Run.{EntersAll}
 use Rattle.umem_cli.proofs.run.perform_phase.Given as goal
 
 abbrev pub invariant-loop-step : goal.invariant-loop-step

@@ -3,10 +3,10 @@ use Rattle.std.specs.Prelude.{sum_by}
 use Rattle.std.specs.Vec.Iter.{into_iter_items}
 use Rattle.std.proofs.lemmas.List.{map-append, append_assoc}
 use Rattle.std.proofs.lemmas.List.Sums.{sum_by-cons}
-use Rattle.umem_base.specs.Bounded.{Bounded}
+use Rattle.umem_base.specs.BoundedVec.{BoundedVec}
 use Rattle.script.specs.declared.tree.Step.{Step}
 use Rattle.script.specs.Plan.{turns_of}
-use Rattle.umem_cli.proofs.Histories.{follows_more}
+use Rattle.umem_cli.proofs.RunLemmas.{follows_more}
 use Rattle.umem_cli.proofs.run.perform_phases.Goals as goal
 
 pub loop-phase-preserved : goal.loop-phase-preserved
@@ -14,7 +14,7 @@ loop-phase-preserved c =
     let was = c.loop-phase.invariant in
     let done = c.loop-phase.yielded in
     let phase = c.in-Some.phase in
-    let size = λ (phase : Bounded Step). length phase.items in
+    let size = λ (phase : BoundedVec Step). length phase.items in
     let sum = ap (λ l. sum_by size l) c.in-Some.ensures.steps.0 ∙ sum_by-cons size phase (into_iter_items c.next.new.self) in
     record {
       can_next = tt;

@@ -2,7 +2,7 @@ use Rattle.std.proofs.Common.{◌≡◌, ◌≤◌, ◌++◌, length, map}
 use Rattle.std.specs.Prelude.{sum_by}
 use Rattle.std.specs.Vec.Iter.{into_iter_items}
 use Rattle.script.specs.Plan.{turns_of}
-use Rattle.plain_heap.specs.Answers.{FollowsPhases}
+use Rattle.plain_heap.specs.FirstAnswers.{FollowsPhases}
 use Rattle.umem_cli.proofs.run.perform_phases.Given as goal
 
 abbrev pub invariant-loop-phase : goal.invariant-loop-phase

@@ -3,7 +3,7 @@ use Rattle.std.proofs.lemmas.Iterator.Consumers.{fold_from_yields_List}
 use Rattle.std.proofs.lemmas.Iterator.Splits.{YieldsList-from_slice_split}
 use Rattle.umem_options.specs.Debug.{debug_item, debug_after, options_of}
 use Rattle.umem_options.specs.Limits.{IsOptions}
-use Rattle.umem_options.proofs.WithinLimits.{IsOptions-options_of}
+use Rattle.umem_options.proofs.LimitsLemmas.{IsOptions-options_of}
 use Rattle.umem_options.proofs.debug.read_debug.Goals as goal
 
 pub returns-clause-options : goal.returns-clause-options

@@ -1,4 +1,4 @@
-use Rattle.umem_options.proofs.Settings.{no_setting, setting_is}
+use Rattle.umem_options.proofs.ItemsLemmas.{no_setting, setting_is}
 use Rattle.umem_options.proofs.logging.logging_item.Goals as goal
 
 pub returns-in-None : goal.returns-in-None

@@ -3,7 +3,7 @@ use Rattle.std.proofs.lemmas.Iterator.Consumers.{fold_from_yields_List}
 use Rattle.std.proofs.lemmas.Iterator.Splits.{YieldsList-from_slice_split}
 use Rattle.umem_options.specs.Logging.{logging_item, logging_after, logging_of}
 use Rattle.umem_options.specs.Limits.{IsLogging}
-use Rattle.umem_options.proofs.WithinLimits.{IsLogging-logging_of}
+use Rattle.umem_options.proofs.LimitsLemmas.{IsLogging-logging_of}
 use Rattle.umem_options.proofs.logging.read_logging.Goals as goal
 
 pub returns-clause-logging : goal.returns-clause-logging

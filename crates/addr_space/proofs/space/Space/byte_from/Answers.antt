@@ -1,6 +1,6 @@
 use Rattle.std.proofs.Common.{◌+◌, sym, arith}
-use Rattle.addr_space.specs.Places.{Holds}
-use Rattle.addr_space.proofs.Bytes.{byte_at-past, byte_at-none, byte_at-read}
+use Rattle.addr_space.specs.MappedRun.{Holds}
+use Rattle.addr_space.proofs.SpaceLemmas.{byte_at-past, byte_at-none, byte_at-read}
 use Rattle.addr_space.proofs.space.Space.byte_from.Goals as goal
 
 pub returns-in_err-address : goal.returns-in_err-address

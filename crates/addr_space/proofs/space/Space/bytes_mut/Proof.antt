@@ -42,10 +42,9 @@ use denote.Triple.Clauses.{lasts}
 use denote.Triple.Spec.{triple_of}
 use denote.Triple.Table.{framed}
 use denote.Triple.Walked.{Stays, walk_of, stay_dropped, Goes-dropped, Goes-spent_ref, ends_at}
-use Rattle.addr_space.specs.Mapped.{Mapped}
-use Rattle.addr_space.specs.Spaces.{runs_of, Reads, Writes, IsInRun}
-use Rattle.addr_space.specs.Places.{HoldsRange}
-use Rattle.addr_space.specs.SpaceLending.{LendsBytes, with_bytes}
+use Rattle.addr_space.specs.MappedRun.{HoldsRange}
+use Rattle.addr_space.specs.Space.{Space, runs_of, HasBytes, Writes, IsInRun, IsSound, with_bytes}
+use Rattle.addr_space.specs.SpaceLoan.{LendsBytes}
 use Rattle.addr_space.specs.declared.place.Place.{Place}
 use Rattle.addr_space.specs.contracts.place.Place as P
 use Rattle.addr_space.specs.contracts.space.Space.{the_row as R}
@@ -58,7 +57,7 @@ use Rattle.addr_space.proofs.space.Space.place_of.Met.{met as finds}
 use Rattle.addr_space.proofs.space.Space.bytes_mut_at.Met.{met as lends}
 use Rattle.addr_space.proofs.space.Space.bytes_mut.Code as code
 use Rattle.addr_space.proofs.space.Space.bytes_mut.Statement.{statement}
-use Rattle.addr_space.proofs.Loans.{noted, told, told_last, Seen, seen}
+use Rattle.addr_space.proofs.SpaceLoanLemmas.{noted, told, told_last, Seen, seen}
 
 abbrev stayed : Stays f.ended.signature.params f.ended.kept
 stayed = (stay_dropped (mut_ref_to (0 ∷ []) tt (plain (λ _. R))) no, (stay_dropped (plain (λ _. u64)) yes, (stay_dropped (plain (λ _. usize)) yes, tt)))
@@ -73,14 +72,17 @@ abbrev tells : Tells P.the_row (Is P.the_row) (λ p. val p ∷ [])
 tells = place.the_told.tells
 
 -- what `place_of` ensures, and the parts of what `bytes_mut_at` ensures
-abbrev Finds : List Mapped → ℕ → ℕ → Option Place → Type 0
+abbrev Finds : Space → ℕ → ℕ → Option Place → Type 0
 Finds ms at count o = MatchOption o (0 < count → IsInRun (runs_of ms) at count → ⊥) (λ p. (0 < count) × (p.index < length ms) × HoldsAt (HoldsRange at p.from count) ms p.index)
 
-abbrev WritesAt : List Mapped → ℕ → ℕ → Type 0
+abbrev WritesAt : Space → ℕ → ℕ → Type 0
 WritesAt ms at count = (bytes : List ℕ) → length bytes ≡ count → Writes ms (with_bytes ms at bytes) at count (λ k. slice_index bytes k)
 
-abbrev ReadsAt : List Mapped → ℕ → ℕ → List ℕ → Type 0
-ReadsAt ms at count part = Reads ms at count (λ k. slice_index part k)
+abbrev SoundAt : Space → ℕ → Type 0
+SoundAt ms at = (bytes : List ℕ) → IsSound (with_bytes ms at bytes)
+
+abbrev ReadsAt : Space → ℕ → ℕ → List ℕ → Type 0
+ReadsAt ms at count part = HasBytes ms at count (λ k. slice_index part k)
 
 pub bytes_mut_spec : {M : Type 1} → statement M
 unfolding follows_by
@@ -113,11 +115,11 @@ bytes_mut_spec 𝓤 𝓛 𝓜 𝓡 wired =
     calls_at ! (framed 𝓤 𝓛.H 𝓜 𝓣) G (finds 𝓤 𝓛 𝓜 𝓡 (code.calls-addr_space::space::Space::place_of 𝓡.env wired)) z
     (and_then ! (get ! refl) (and_then ! (get ! refl) (and_then ! (get ! refl) (no_more !)))) (λ v.
     use1 𝓛 (later (some (λ (found : Option Place). ((‵ (flft (α ∷ []) full_share) ⊛ ‵ ftrue) ⊛ ‵ ((OP.the_row P.the_row).own_val found (v ∷ []))) ⊛
-    some (λ (ws : Unit {0} × (Unit {0} × (Unit {0} × Unit {0}))). ‵ (lasts g.ended z.0.0 z.0.3 ws) ⊛ raw (fact 𝓤 (Finds ms at count found)))))) (id⊢ 𝓤 _) $
+    some (λ (ws : Unit {0} × (Unit {0} × (Unit {0} × Unit {0}))). ‵ (lasts g.ended z.0.0 z.0.3 ws) ⊛ raw (fact 𝓤 (Finds ms at count found)) ⊛ raw (fact 𝓤 (IsSound ms)))))) (id⊢ 𝓤 _) $
     await ! tt $ pick ! (λ found. split ! $ split ! $ split ! $
     lft_end ! tt $ move ! (0 ∷ 4 ∷ []) $ lent_back ! tt $ move ! (0 ∷ 4 ∷ 5 ∷ 6 ∷ []) $ close_ref ! tt (mem R) ms $ feq_i ! (List Val) (mut_vals r) (mut_vals r) refl $ fjoin3 ! $
     -- [the reference; the token of κ; nothing; what was found; what is ensured of it]
-    move ! (4 ∷ []) $ pick ! (λ ws. split ! $ drop ! $ heard ! _ (λ is_place. move ! (3 ∷ []) $
+    move ! (4 ∷ []) $ pick ! (λ ws. split ! $ drop ! $ split ! $ heard ! _ (λ is_place. heard ! _ (λ was_sound. move ! (3 ∷ []) $
     use1 𝓛 (raw (fact 𝓤 (Seen 𝓛 P.the_row val tells found v))) (seen 𝓛 P.the_row val tells found v) $ heard ! _ (λ is. elim is [
       | inl is_none ↦
           let none = subst (Finds ms at count) is_none.0 is_place in
@@ -131,7 +133,7 @@ bytes_mut_spec 𝓤 𝓛 𝓜 𝓡 wired =
           use0 𝓛 (‵ ((OP.the_row (Lent κ)).own_val None (live 0 (of_list []) ∷ []))) (none_of 𝓛 (Lent κ)) $
           suffices ! _ (ends_at 𝓛 f.ended stayed c y (live 0 (of_list [])) None (tt, (tt, (tt, tt))) (tt, (tt, (tt, tt)))) $
           nothing ! $ nothing ! $ fjoin ! $ nothing ! $ fjoin ! $ nothing ! $ fjoin ! $ join ! $ nothing ! $ move ! (2 ∷ 0 ∷ []) $ join ! $ join ! $ frame ! $ frame ! $
-          told ! (λ some in_run. absurd (none some in_run)) $ told ! tt $ told ! none $ told_last ! tt
+          told ! (λ some in_run. absurd (none some in_run)) $ told ! tt $ told ! was_sound $ told ! tt $ told ! none $ told_last ! tt
       | inr is_some ↦
           let p = is_some.0 in let found = subst (Finds ms at count) is_some.1 is_place in let in_type = (loose_lawful P.the_type place.the_loose 𝓛).typed p _ is_some.3 in
           lands_as ! is_some.2 refl (tt, (record { fits = lit< tt }, (in_type.0.1, tt))) $
@@ -148,7 +150,7 @@ bytes_mut_spec 𝓤 𝓛 𝓜 𝓡 wired =
           (and_then ! (get ! refl) (and_then ! (get ! refl) (and_then ! (get ! refl) (and_then ! (get ! refl) (no_more !))))) (λ v'.
           use1 𝓛 (later (some (λ (w : MutBor (List ℕ)). ((‵ (flft κ q) ⊛ ‵ ftrue) ⊛ ‵ ((Lent κ).own_val w (v' ∷ []))) ⊛
           some (λ (ws : Unit {0} × (Unit {0} × (Unit {0} × (Unit {0} × Unit {0})))). ‵ (lasts h.ended z'.0.0 z'.0.3 ws) ⊛ ‵ (LendsBytes r at w) ⊛
-          raw (fact 𝓤 (WritesAt ms at count)) ⊛ raw (fact 𝓤 (IsInRun (runs_of ms) at count)) ⊛ raw (fact 𝓤 (length w.now ≡ count)) ⊛ raw (fact 𝓤 (ReadsAt ms at count w.now)))))) (id⊢ 𝓤 _) $
+          raw (fact 𝓤 (WritesAt ms at count)) ⊛ raw (fact 𝓤 (SoundAt ms at)) ⊛ raw (fact 𝓤 (IsInRun (runs_of ms) at count)) ⊛ raw (fact 𝓤 (length w.now ≡ count)) ⊛ raw (fact 𝓤 (ReadsAt ms at count w.now)))))) (id⊢ 𝓤 _) $
           await ! tt $ pick ! (λ w. split ! $ split ! $ split ! $ move ! (2 ∷ []) $ peeks ! (Lent κ) (Is (Lent κ)) (shows 𝓛 (Lent κ)) w (v' ∷ []) (λ is_slice.
           let sv = slice_val w.ref_ptr (length w.now) in let is_sv : v' ≡ sv = ap only is_slice.0.0 in
           let fits : WT sv = (tt, (record { fits = is_slice.0.1.0 }, tt)) in let some_fits : WT (live 1 (of_list (sv ∷ []))) = (record { fits = lit< tt }, (fits, tt)) in
@@ -156,10 +158,10 @@ bytes_mut_spec 𝓤 𝓛 𝓜 𝓡 wired =
           sets_last ! (agg ! (and_then ! (lit ! tt) (and_then ! (get ! refl) (no_more !)))) refl (tt, some_fits) $ exec ! 𝓣.C 𝓣.Λ (En l) code.Mir.t-4 (at_ret (En l) (W.post y)) $
           sets ! (of_opd ! (get ! refl)) refl (tt, some_fits) $ returns ! (look_at ! 0 refl) $ free_all ! refl $
           -- [what the slice owns; the token of κ; nothing; what is ensured of it]
-          move ! (3 ∷ []) $ pick ! (λ ws. split ! $ drop ! $ split ! $ move ! (1 ∷ []) $ split ! $ heard ! _ (λ writes. split ! $ heard ! _ (λ inside. split ! $ heard ! _ (λ len. heard ! _ (λ bytes.
+          move ! (3 ∷ []) $ pick ! (λ ws. split ! $ drop ! $ split ! $ move ! (1 ∷ []) $ split ! $ heard ! _ (λ writes. split ! $ heard ! _ (λ sound. split ! $ heard ! _ (λ inside. split ! $ heard ! _ (λ len. heard ! _ (λ bytes.
           move ! (1 ∷ 2 ∷ 0 ∷ []) $ keep ! (0 ∷ 1 ∷ 2 ∷ []) $ rewrite ! 0 (λ (u : Val). ‵ ((Lent κ).own_val w (u ∷ []))) is_sv refl $
           use1 𝓛 (‵ ((OP.the_row (Lent κ)).own_val (Some w) (live 1 (of_list (sv ∷ [])) ∷ []))) (Some-of 𝓛 (Lent κ) w sv) $
           suffices ! _ (ends_at 𝓛 f.ended stayed c y (live 1 (of_list (sv ∷ []))) (Some w) (tt, (tt, (tt, tt))) (tt, (tt, (tt, tt)))) $
           nothing ! $ nothing ! $ fjoin ! $ nothing ! $ fjoin ! $ nothing ! $ fjoin ! $ join ! $ nothing ! $ move ! (2 ∷ 0 ∷ []) $ join ! $ join ! $ frame ! $ frame ! $
-          told ! (λ _ _. writes) $ told ! (found.0, inside) $ told ! tt $ told_last ! (len, bytes)))))))))
-    ]))))))))
+          told ! (λ _ _. writes) $ told ! sound $ told ! was_sound $ told ! (found.0, inside) $ told ! tt $ told_last ! (len, bytes))))))))))
+    ])))))))))

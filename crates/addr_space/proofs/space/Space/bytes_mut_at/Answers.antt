@@ -1,11 +1,6 @@
-use Rattle.std.proofs.Common.{[], refl}
-use Rattle.addr_space.specs.Mapped.{Mapped}
-use Rattle.addr_space.proofs.Order.{IsInRun-from_place}
-use Rattle.addr_space.proofs.Parts.{IsLent, IsLent-part, with_part_at-bytes}
+use Rattle.std.proofs.Common.{refl}
+use Rattle.addr_space.proofs.SpaceLemmas.{no_run, IsSound-with_bytes, IsInRun-from_place, IsLent, IsLent-part, with_part_at-bytes}
 use Rattle.addr_space.proofs.space.Space.bytes_mut_at.Goals as goal
-
-abbrev no_run : Mapped
-no_run = record { base = 0; bytes = [] }
 
 pub returns : goal.returns
 returns c =
@@ -19,6 +14,7 @@ returns c =
       record {
         writes_back = tt;
         writes = lent.writes;
+        sound = λ w. IsSound-with_bytes ms c.args.at w c.self.invariant;
         inside = IsInRun-from_place ms place.index c.args.at place.from c.args.count no_run c.self.invariant asked.within (asked.range no_run);
         len = c.part_mut.ensures.len;
         bytes = lent.bytes;

@@ -1,10 +1,10 @@
 use Rattle.std.proofs.Common.{get_or, refl}
-use Rattle.addr_space.proofs.Parts.{IsMapped-rest, Writes-more}
+use Rattle.addr_space.proofs.SpaceLemmas.{IsMappedRange-rest, Writes-more}
 use Rattle.addr_space.proofs.space.Space.store_each.Goals as goal
 
 pub put-requires : goal.put-requires
 put-requires c =
-    IsMapped-rest c.args.self.now c.loop-offset.self c.args.at c.loop-offset.offset _ (λ k. get_or c.args.bytes.now k 0) c.requires.mapped c.loop-offset.invariant c.loop-offset-test.true
+    IsMappedRange-rest c.args.self.now c.loop-offset.self c.args.at c.loop-offset.offset _ (λ k. get_or c.args.bytes.now k 0) c.requires.mapped c.loop-offset.invariant c.loop-offset-test.true
 
 pub loop-offset-preserved : goal.loop-offset-preserved
 loop-offset-preserved c =

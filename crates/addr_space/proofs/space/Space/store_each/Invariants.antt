@@ -1,5 +1,5 @@
 use Rattle.std.proofs.Common.{get_or}
-use Rattle.addr_space.specs.Spaces.{Writes}
+use Rattle.addr_space.specs.Space.{Writes}
 use Rattle.addr_space.proofs.space.Space.store_each.Given as goal
 
 abbrev pub invariant-loop-offset : goal.invariant-loop-offset

@@ -1,6 +1,5 @@
 use Rattle.std.specs.Prelude.{remove}
-use Rattle.addr_space.proofs.Changes.{IsSpace-remove, Unmaps-remove, unmapped_index, some_holds}
-use Rattle.addr_space.proofs.Sound.{IsSound-from_space}
+use Rattle.addr_space.proofs.SpaceLemmas.{IsSpace-remove, Unmaps-remove, unmapped_index, some_holds, IsSound-from_space}
 use Rattle.addr_space.proofs.space.Space.unmap.Goals as goal
 
 pub invariant_of-self : goal.invariant_of-self

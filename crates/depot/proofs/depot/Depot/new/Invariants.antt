@@ -1,10 +1,11 @@
-use Rattle.std.proofs.Common.{◌≡◌, ◌≤◌, All, vec_len, vec_capacity}
-use Rattle.depot.proofs.Racks.{IsEmptyOf}
+use Rattle.std.proofs.Common.{◌≡◌, ◌+◌, All, length}
+use Rattle.depot.specs.declared.depot.TheConstants.{MAGAZINES}
+use Rattle.depot.specs.Depot.{IsEmptyOf}
 use Rattle.depot.proofs.depot.Depot.new.Given as goal
 
 abbrev pub invariant-loop : goal.invariant-loop
 invariant-loop l = record {
-  count : vec_len l.empty ≡ l.counter;
-  room : 8 ≤ vec_capacity l.empty;
+  count : length l.empty.items ≡ l.counter;
+  room : l.empty.spare + l.counter ≡ MAGAZINES;
   empty : All (IsEmptyOf l.size) l.empty.items;
 }

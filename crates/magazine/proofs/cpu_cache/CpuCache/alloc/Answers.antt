@@ -1,5 +1,5 @@
 use Rattle.std.proofs.Common.{rules}
-use Rattle.magazine.proofs.Moves.{holds_for_need}
+use Rattle.magazine.proofs.CpuCacheLemmas.{holds_for_need}
 use Rattle.magazine.proofs.cpu_cache.CpuCache.alloc.Goals as goal
 
 pub returns-clause-holds : goal.returns-clause-holds

@@ -1,5 +1,5 @@
 use Rattle.std.proofs.Common.{rules}
-use Rattle.magazine.proofs.Moves.{holds_for_room}
+use Rattle.magazine.proofs.CpuCacheLemmas.{holds_for_room}
 use Rattle.magazine.proofs.cpu_cache.CpuCache.free.Goals as goal
 
 pub returns-clause-holds : goal.returns-clause-holds

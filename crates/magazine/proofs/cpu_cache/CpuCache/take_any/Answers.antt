@@ -1,5 +1,5 @@
 use Rattle.std.proofs.Common.{rules}
-use Rattle.magazine.proofs.Moves.{IsPermutation-TakesLoaded, holds_for_option}
+use Rattle.magazine.proofs.CpuCacheLemmas.{IsPermutation-TakesLoaded, holds_for_option}
 use Rattle.magazine.proofs.cpu_cache.CpuCache.take_any.Goals as goal
 
 pub returns-in-Some-clause-holds : goal.returns-in-Some-clause-holds

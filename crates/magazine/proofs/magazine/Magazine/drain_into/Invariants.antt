@@ -1,5 +1,5 @@
 use Rattle.std.proofs.Common.{◌≡◌, length, reverse}
-use Rattle.slab_layer.specs.Layers.{after_puts}
+use Rattle.slab_layer.specs.Slabs.{AreSlabs, after_puts}
 use Rattle.magazine.proofs.magazine.Magazine.drain_into.Given as goal
 
 abbrev pub invariant-loop-round : goal.invariant-loop-round
@@ -8,6 +8,7 @@ invariant-loop-round l = record {
   cache : l.slabs.cache ≡ l.initial.slabs.cache;
   spare : l.slabs.spare ≡ l.initial.slabs.spare;
   put : after_puts l.slabs.slabs (reverse l.self.rounds) ≡ after_puts l.initial.slabs.slabs (reverse l.initial.self.rounds);
+  sound : AreSlabs l.slabs.slabs;
 }
 
 abbrev pub decreases-loop-round : goal.decreases-loop-round

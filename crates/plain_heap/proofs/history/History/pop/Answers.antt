@@ -1,12 +1,12 @@
 use Rattle.std.proofs.Common.{◌≡◌, [], ◌∷◌, ◌++◌, Option, Some, None}
 use Rattle.std.specs.Prelude.{MatchOption}
-use Rattle.umem_base.specs.Bounded.{Bounded}
+use Rattle.umem_base.specs.BoundedVec.{BoundedVec}
 use Rattle.plain_heap.specs.declared.entry.Entry.{Entry}
-use Rattle.plain_heap.specs.Numbered.{IsNumbered}
-use Rattle.plain_heap.proofs.Numbers.{numbered_pop}
+use Rattle.plain_heap.specs.History.{IsNumbered}
+use Rattle.plain_heap.proofs.HistoryLemmas.{numbered_pop}
 use Rattle.plain_heap.proofs.history.History.pop.Goals as goal
 
-still_numbered : (result : Option Entry) (old new : Bounded Entry) → IsNumbered 0 old.items → MatchOption result (new ≡ old) (λ entry. old.items ≡ new.items ++ entry ∷ []) → IsNumbered 0 new.items
+still_numbered : (result : Option Entry) (old new : BoundedVec Entry) → IsNumbered 0 old.items → MatchOption result (new ≡ old) (λ entry. old.items ≡ new.items ++ entry ∷ []) → IsNumbered 0 new.items
 still_numbered None old new h is = rw is h
 still_numbered (Some entry) old new h is = numbered_pop 0 new.items entry (rw is at h)
 

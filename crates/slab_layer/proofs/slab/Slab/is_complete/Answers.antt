@@ -1,4 +1,4 @@
-use Rattle.slab_layer.proofs.SlabLists.{decides_complete}
+use Rattle.slab_layer.proofs.SlabLemmas.{decides_complete}
 use Rattle.slab_layer.proofs.slab.Slab.is_complete.Goals as goal
 
 pub returns : goal.returns

@@ -1,9 +1,9 @@
 use Rattle.std.proofs.Common.{◌≡◌, ◌+◌, ◌-◌, ◌<◌, length, ◌∙◌, refl, arith}
 use Rattle.std.specs.Prelude.{slice_index}
 use Rattle.std.proofs.lemmas.List.{get_or_read}
-use Rattle.slab_layer.specs.Layers.{slab_of, IsSlab}
-use Rattle.slab_layer.proofs.Numbers.{get_or-consecutive}
-use Rattle.slab_layer.proofs.SlabLists.{IsSlab-slab_of}
+use Rattle.slab_layer.specs.Slab.{IsSlab, slab_of}
+use Rattle.slab_layer.proofs.RoundsLemmas.{get_or-consecutive}
+use Rattle.slab_layer.proofs.SlabLemmas.{IsSlab-slab_of}
 use Rattle.slab_layer.proofs.slab.Slab.new.Goals as goal
 
 first_is : (c : goal.After-chunk-last) → c.chunk-first.result ≡ slice_index c.args.rounds.items 0

@@ -1,13 +1,13 @@
 use Rattle.std.proofs.Common.{List, ap}
-use Rattle.span_arena.specs.declared.span.Span.{Span}
-use Rattle.span_arena.specs.Gaps.{area}
-use Rattle.span_arena.proofs.Changes.{IsTaken, IsTaken-from_gap}
+use Rattle.umem_base.specs.declared.span.Span.{Span}
+use Rattle.span_arena.specs.Gap.{arena_of}
+use Rattle.span_arena.proofs.ArenaLemmas.{IsTaken, IsTaken-insert}
 use Rattle.span_arena.proofs.arena.Arena.take.Goals as goal
 
-taken : (c : goal.In_ok-insert) → IsTaken (area c.self.inside.base c.self.inside.pages c.self.inside.spans.items) c.insert.new.self.items (record { base = c.in-Some.gap.base; pages = c.args.pages })
+taken : (c : goal.In_ok-insert) → IsTaken (arena_of c.self.inside.base c.self.inside.pages c.self.inside.spans.items) c.insert.new.self.items c.in-Some.gap.run
 taken c =
     let gap = rw c.deref.ensures.value at c.in-Some.ensures in
-    IsTaken-from_gap (area c.self.inside.base c.self.inside.pages c.self.inside.spans.items) c.args.pages c.in-Some.gap.index c.in-Some.gap.base c.insert.new.self.items c.self.invariant c.requires gap c.in_ok-insert.ensures.items
+    IsTaken-insert (arena_of c.self.inside.base c.self.inside.pages c.self.inside.spans.items) c.in-Some.gap.run c.in-Some.gap.index c.insert.new.self.items c.self.invariant gap.1 c.in_ok-insert.ensures.items
 
 pub invariant_of-self-2 : goal.invariant_of-self-2
 invariant_of-self-2 c = (taken c).sound
@@ -17,10 +17,10 @@ returns-in_default-clause-lowest c = rw (← c.self.view_is) (rw c.deref.ensures
 
 pub returns-clause-spans : goal.returns-clause-spans
 returns-clause-spans c =
-    rw (← c.self.view_is) (ap (λ (spans : List Span). area c.self.inside.base c.self.inside.pages spans) (taken c).spans)
+    rw (← c.self.view_is, ← c.in-Some.ensures.0) (ap (λ (spans : List Span). arena_of c.self.inside.base c.self.inside.pages spans) (taken c).spans)
 
 pub returns-clause-gains : goal.returns-clause-gains
-returns-clause-gains c = rw (← c.self.view_is) (taken c).gains
+returns-clause-gains c = rw (← c.self.view_is, ← c.in-Some.ensures.0) (taken c).gains
 
 pub returns-clause-sound : goal.returns-clause-sound
 returns-clause-sound c = (taken c).sound

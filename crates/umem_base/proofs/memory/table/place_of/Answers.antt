@@ -1,5 +1,5 @@
 use Rattle.std.proofs.Common.{sym, ◌∙◌, add-one}
-use Rattle.umem_base.proofs.FileLists.{first_at, none_more, placed}
+use Rattle.umem_base.proofs.MemFolderLemmas.{first_at, none_more, placed}
 use Rattle.umem_base.proofs.memory.table.place_of.Goals as goal
 
 pub returns-then-eq : goal.returns-then-eq

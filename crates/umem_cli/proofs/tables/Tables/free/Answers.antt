@@ -1,14 +1,14 @@
 use Rattle.std.proofs.Common.{rules, ◌≡◌, ℕ, List, length, slice_index, slice_set, sym, ap, subst, ◌∙◌, arith}
 use Rattle.std.specs.Prelude.{Result, Ok, Err, IfOk, MatchResult}
 use Rattle.std.specs.FinMap.{get}
-use Rattle.span_arena.specs.Spans.{Area, Loses, without_base}
+use Rattle.umem_base.specs.Ordered.{Loses, left_out_by}
+use Rattle.span_arena.specs.Arena.{Arena}
 use Rattle.span_arena.specs.declared.not_a_span.NotASpan.{NotASpan}
-use Rattle.span_arena.specs.declared.span.Span.{Span}
-use Rattle.plain_heap.specs.Meaning.{without_buffer, with_slot}
+use Rattle.umem_base.specs.declared.span.Span.{Span}
+use Rattle.plain_heap.specs.FirstMeaning.{without_first_buffer, with_first_slot}
 use Rattle.umem_cli.specs.declared.tables.Tables.{Tables}
 use Rattle.umem_cli.specs.Tables.{Describe}
-use Rattle.umem_cli.proofs.Runs.{free_ok, is_given, runs_lose}
-use Rattle.umem_cli.proofs.Described.{slot_written, given_back}
+use Rattle.umem_cli.proofs.TablesLemmas.{free_ok, is_given, runs_lose, slot_written, given_back}
 use Rattle.umem_cli.proofs.tables.Tables.free.Goals as goal
 
 pub unwrap-requires : goal.unwrap-requires
@@ -19,11 +19,11 @@ unwrap-requires c =
     is_given tables.live.buffers tables.arena.spans word live.0 c.give_back-freed.result c.requires.tables.runs live.1 c.give_back-freed.ensures.refused
 
 -- what giving a span back changes
-kept : (result : Result ℕ NotASpan) (pages base : ℕ) (old new : Area) → result ≡ Ok pages → MatchResult result (λ pages. new ≡ record { base = old.base; pages = old.pages; spans = without_base old.spans base }) (λ _. new ≡ old) → (new.base ≡ old.base) × (new.pages ≡ old.pages)
-kept (Ok n) pages base old new is spans = (ap (λ (a : Area). a.base) spans, ap (λ (a : Area). a.pages) spans)
+kept : (result : Result ℕ NotASpan) (pages base : ℕ) (old new : Arena) → result ≡ Ok pages → MatchResult result (λ pages. new ≡ record { base = old.base; pages = old.pages; spans = left_out_by (λ (s : Span). s.base) old.spans base }) (λ _. new ≡ old) → (new.base ≡ old.base) × (new.pages ≡ old.pages)
+kept (Ok n) pages base old new is spans = (ap (λ (a : Arena). a.base) spans, ap (λ (a : Arena). a.pages) spans)
 kept (Err e) pages base old new is spans = absurd (cc is)
 
-lost : (result : Result ℕ NotASpan) (n base : ℕ) (old new : List Span) → result ≡ Ok n → IfOk result (λ pages. Loses old new (record { base = base; pages = pages })) → (pages : ℕ) × Loses old new (record { base = base; pages = pages })
+lost : (result : Result ℕ NotASpan) (n base : ℕ) (old new : List Span) → result ≡ Ok n → IfOk result (λ pages. Loses (λ (s : Span). s.base) old new (record { base = base; pages = pages })) → (pages : ℕ) × Loses (λ (s : Span). s.base) old new (record { base = base; pages = pages })
 lost (Ok pages) n base old new is loses = (pages, loses)
 lost (Err e) n base old new is loses = absurd (cc is)
 
@@ -48,6 +48,6 @@ returns-in-Ok-clause-described c =
     let back = given_back tables state c.freed.new.self c.give_back-freed.new.self word c.freed.ensures.buffers describe in
     let long : length tables.slots ≡ 512 = search rules in
     let after_tables : Tables = record { slots = slice_set tables.slots c.args.slot 0; live = c.freed.new.self; arena = c.give_back-freed.new.self } in
-    let done = slot_written (record { slots = tables.slots; live = c.freed.new.self; arena = c.give_back-freed.new.self }) (without_buffer state word) c.args.slot 0 long c.requires.slot (omega arith) back in
-    let after = λ (w : ℕ). with_slot (without_buffer state w) c.args.slot 0 in
+    let done = slot_written (record { slots = tables.slots; live = c.freed.new.self; arena = c.give_back-freed.new.self }) (without_first_buffer state word) c.args.slot 0 long c.requires.slot (omega arith) back in
+    let after = λ (w : ℕ). with_first_slot (without_first_buffer state w) c.args.slot 0 in
     rw c.in-Ok.is (subst (λ (w : ℕ). Describe after_tables (after w)) (describe.slots c.args.slot c.requires.slot) done)

@@ -2,7 +2,7 @@ use Rattle.std.proofs.Common.{[], Option, sym, ap, ◌∙◌, arith}
 use Rattle.std.specs.Ordering.{nat_cmp}
 use Rattle.std.specs.FinMap.{get-empty}
 use Rattle.std.specs.FinMap as map
-use Rattle.span_arena.specs.Spans.{Area}
+use Rattle.span_arena.specs.Arena.{Arena}
 use Rattle.plain_heap.specs.declared.held.Held.{Held}
 use Rattle.plain_heap.specs.Live.{live_in}
 use Rattle.umem_cli.specs.Tables.{AreRuns}
@@ -17,8 +17,8 @@ no_runs = record {
 pub returns-clause-tables : goal.returns-clause-tables
 returns-clause-tables c =
     record {
-      base = ap (λ (a : Area). a.base) c.new.ensures.value;
-      pages = ap (λ (a : Area). a.pages) c.new.ensures.value;
+      base = ap (λ (a : Arena). a.base) c.new.ensures.value;
+      pages = ap (λ (a : Arena). a.pages) c.new.ensures.value ∙ c.arena_pages.ensures;
       runs = rw (c.in_ok-with_room.ensures.empty, c.new.ensures.value) no_runs;
     }
 

@@ -1,6 +1,6 @@
 use Rattle.std.proofs.Common.{sym, ap, ◌∙◌}
-use Rattle.umem_base.specs.Memory.{SourceState}
-use Rattle.umem_base.proofs.Moves.{slice_rest, moves, moves_none}
+use Rattle.umem_base.specs.MemSource.{MemSource}
+use Rattle.umem_base.proofs.MemSourceLemmas.{slice_rest, moves, moves_none}
 use Rattle.umem_base.proofs.memory.source.MemSourceSource.read.Goals as goal
 
 pub returns-clause-moved : goal.returns-clause-moved
@@ -9,6 +9,6 @@ returns-clause-moved c =
     let at = c.self.inside.at in
     let is = rw (c.deref.ensures.value, slice_rest bytes at) at c.min-count.ensures in
     let filled = rw (c.deref.ensures.value, slice_rest bytes at) at c.copy_from_slice.ensures.after in
-    let left = ap (λ (s : SourceState). s.left) c.self.view_is in
+    let left = ap (λ (s : MemSource). s.left) c.self.view_is in
     let buffer = c.args.buffer.now in
     (sym left ∙ moves bytes buffer _ at _ is filled, moves_none bytes buffer _ at _ is filled)

@@ -1,7 +1,7 @@
 use Rattle.std.proofs.Common.{[], ◌∙◌}
 use Rattle.std.proofs.lemmas.List.{map-set}
 use Rattle.umem_base.specs.Files.{file_of}
-use Rattle.umem_base.proofs.FileLists.{changed_at}
+use Rattle.umem_base.proofs.MemFolderLemmas.{changed_at}
 use Rattle.umem_base.proofs.memory.table.Table.empty_at.Goals as goal
 
 pub returns : goal.returns

@@ -1,0 +1,13 @@
+use Rattle.std.proofs.Common.{ap}
+use Rattle.script.specs.Plan.{Plan}
+use Rattle.script.specs.Fields.{slot}
+use Rattle.script.specs.Grammar.{size}
+use Rattle.script.specs.Reading.{itself}
+use Rattle.script.proofs.GivesLemmas.{Gives-two}
+use Rattle.script.proofs.draft.Draft.read_sized.Goals as goal
+
+pub returns : goal.returns
+returns c =
+    let version = ap (λ (plan : Plan). plan.header.version) c.self.view_is in
+    let first = rw version at c.read_slot-slot.ensures in
+    rw c.in-Some.ensures (Gives-two itself itself c.args.self.now.header slot size c.in-Some.slot.now c.in-Some.size.now c.in-Some.frames _ _ _ _ _ _ _ _ first c.read_number-size.ensures c.read_stack-stack.ensures c.both-behind.ensures c.both.ensures)

@@ -1,0 +1,6 @@
+use Rattle.std.proofs.Common.{◌≡◌, ◌++◌, take}
+use Rattle.hex.specs.Hex.{encode_lower}
+use Rattle.script.proofs.put_words.put_pairs.Given as goal
+
+abbrev pub invariant-loop-byte : goal.invariant-loop-byte
+invariant-loop-byte l = l.out ≡ l.initial.out ++ encode_lower (take l.byte-index l.bytes)

@@ -1,6 +1,0 @@
-use Rattle.std.specs.Prelude.{ℕ, List}
-
--- what a list with room is seen as: its items, and how many more fit
-pub record Bounded (T : Type 0) : Type 0 where
-  pub items : List T
-  pub spare : ℕ
