@@ -1,12 +1,24 @@
 -- What follows of the definitions of this crate, for contracts that speak of them.
-use Rattle.std.specs.Prelude.{◌≡◌, ℕ, ◌^◌, ◌<◌, ◌≤◌, Bool, false, List, Some, None, slice_index}
+use Rattle.std.specs.Prelude.{◌≡◌, ℕ, ◌+◌, ◌*◌, ◌^◌, ◌<◌, ◌≤◌, Bool, false, List, Some, None, slice_index}
 use Rattle.case_table.specs.declared.limits.TheConstants.{MOST_CACHE_BYTES}
 use Rattle.buftag.specs.declared.shape.Shape.{Shape}
 use Rattle.buftag.specs.declared.state.State.TheVariants.{Allocated, Free}
 use Rattle.buftag.specs.Codes.{code_of, coded_size}
+use Rattle.buftag.specs.declared.patterns.TheConstants.{FREE_WORD, FRESH_WORD, GUARD_BYTE, REDZONE_HALF, REDZONE_WORD}
 use Rattle.buftag.specs.Findings.{finding}
 use Rattle.buftag.specs.Shape.{IsChunk, IsRequest, IsShape}
-use Rattle.buftag.specs.Written.{KeepsMarks, allocated_chunk, free_chunk}
+use Rattle.buftag.specs.Written.{KeepsMarks, allocated_chunk, free_chunk, mark_of}
+
+-- the numbers that stand in the words, bytes and codes of a chunk
+pub record AreNumbersOfTags : Type 0 where
+  pub free_word : FREE_WORD ≡ 0xdeadbeefdeadbeef
+  pub fresh_word : FRESH_WORD ≡ 0xbaddcafebaddcafe
+  pub redzone_word : REDZONE_WORD ≡ 0xfeedfacefeedface
+  pub redzone_half : REDZONE_HALF ≡ 0xfeedface
+  pub guard_byte : GUARD_BYTE ≡ 0xbb
+  pub allocated_mark : mark_of Allocated ≡ 0xa110c8ed
+  pub free_mark : mark_of Free ≡ 0xf4eef4ee
+  pub code : (size : ℕ) → code_of size ≡ 251 * size + 1
 
 -- the items are bytes
 abbrev pub AreBytes : List ℕ → Type 0

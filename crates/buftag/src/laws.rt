@@ -1,6 +1,12 @@
 //! What the definitions of this crate give, for contracts that speak of them and call nothing here.
 
-ghost use Rattle.buftag.specs.Laws.{AreAllocatedChunksWhole, AreFreeChunksWhole, AreSizesToldByCodes, AreStoresBesideTheMarksAllowed, AreWholeFreeChunksAsWritten, HaveAllocatedChunksTheirLength, HaveFreeChunksTheirLength, HaveWholeAllocatedChunksTheirMarks};
+ghost use Rattle.buftag.specs.Laws.{AreAllocatedChunksWhole, AreFreeChunksWhole, AreNumbersOfTags, AreSizesToldByCodes, AreStoresBesideTheMarksAllowed, AreWholeFreeChunksAsWritten, HaveAllocatedChunksTheirLength, HaveFreeChunksTheirLength, HaveWholeAllocatedChunksTheirMarks};
+
+/// The patterns and marks, and what a size is multiplied by to give its code, as numbers: code and definitions
+/// share the constants, so nothing else here would refuse an exchange of two.
+pub fn tags_have_their_numbers()
+    ensures { AreNumbersOfTags }
+{}
 
 /// A code tells the size that it was made of.
 pub fn codes_tell_their_size()

@@ -2,6 +2,7 @@
 #![tactic(auto)]
 
 mod depot;
+pub mod laws;
 
 pub use depot::Depot;
 

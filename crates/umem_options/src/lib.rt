@@ -5,6 +5,7 @@ mod capacity;
 mod debug;
 mod flags;
 mod item;
+pub mod laws;
 mod limits;
 mod logging;
 mod options;
