@@ -4,12 +4,9 @@ use Rattle.std.proofs.lemmas.Bool.{cases_lt, lt-ltb, le-ltb}
 use Rattle.std.proofs.lemmas.List.Elements.{All-from_recursion}
 use Rattle.case_table.specs.declared.cache_def.CacheDef.{CacheDef}
 use Rattle.case_table.specs.CacheDef.{IsCacheDef, class_def}
-use Rattle.std.specs.Bool.{IsTrue}
-use Rattle.std.proofs.lemmas.Bool.Decides.{nat_tests}
-use Rattle.case_table.specs.Geometry.{IsAlign, IsSlabGeometry, KeepsChunksApart}
+use Rattle.case_table.specs.Geometry.{IsSlabGeometry, KeepsChunksApart}
 use Rattle.case_table.proofs.GeometryLemmas.{chunks_stand, geometry_is_sound}
 use Rattle.case_table.proofs.SizesLemmas.{size_of-small, size_of-some}
-use Rattle.script.specs.Fields.{is_alignment}
 use Rattle.script.specs.Rules.{IsDeclarable, IsHeader}
 use Rattle.plain_heap.specs.Setting.{IsCache, Setting, cache_def_in, def_of, geometry_in}
 
@@ -22,12 +19,8 @@ def_of-declared caches cache le = rw (le-ltb cache 32 le) refl
 class_has_shape : (cache : ℕ) → cache < 32 → IsCacheDef (class_def cache)
 class_has_shape cache lt = record { some = size_of-some cache lt; fits = size_of-small cache; aligned = refl }
 
--- an alignment that a cache line may have is one of a cache
-is_align : (align : ℕ) → IsTrue (is_alignment align) → IsAlign align
-is_align align h = grind (arith, nat_tests)
-
 declarable_has_shape : (version : ℕ) (def : CacheDef) → IsDeclarable version def → IsCacheDef def
-declarable_has_shape version def h = record { some = omega (arith, h.size.0); fits = h.size.1; aligned = is_align def.align h.align }
+declarable_has_shape version def h = record { some = omega (arith, h.size.0); fits = h.size.1; aligned = h.align }
 
 -- each cache of the setting has a size and an alignment that a cache may have
 pub cache_has_shape : (setting : Setting) (cache : ℕ) → IsHeader setting.header → IsCache setting.header.caches cache → IsCacheDef (cache_def_in setting cache)

@@ -1,6 +1,6 @@
 -- What a word of a line has to be, the reason for which it is refused, and what it says.
 use Rattle.std.specs.Prelude.{ℕ, ◌+◌, Bool, true, false, not, ◌&&◌, ◌||◌, ◌==◌, nat_le, nat_lt, if◌then◌else◌, List, [], ◌∷◌, length, map, Option, Some, None, unwrap_or, is_ok, is_some, position, slice_index}
-use Rattle.std.specs.List.{list_all}
+use Rattle.std.specs.List.{list_all, list_any}
 use Rattle.std.specs.Option.{option_map}
 use Rattle.std.specs.Result.{result_unwrap_or}
 use Rattle.std.specs.Str.{bytes_eq}
@@ -11,6 +11,7 @@ use Rattle.umem_base.specs.Numbers.{is_decimal, hex_of}
 use Rattle.case_table.specs.CacheName.{is_cache_name, is_reserved_name}
 use Rattle.case_table.specs.declared.cache_def.CacheDef.{CacheDef}
 use Rattle.case_table.specs.declared.limits.TheConstants.{CLASS_COUNT}
+use Rattle.case_table.specs.declared.slab_formulas.TheConstants.{ALIGNS}
 use Rattle.script.specs.declared.limits.TheConstants.{FIRST_OWN_SLOT, MOST_FRAMES, MOST_STORED}
 use Rattle.script.specs.declared.reasons.Reason.{Reason}
 use Rattle.script.specs.declared.reasons.Reason.TheVariants.{Thread, Slot, Unknown, Number, Range, Name}
@@ -59,9 +60,9 @@ is_cache_declared caches name = is_some (declared_number caches name)
 abbrev pub cache_in : List CacheDef → List ℕ → ℕ
 cache_in caches name = unwrap_or (declared_number caches name) 0
 
--- what an alignment may be
+-- one of the alignments that a cache may have
 abbrev pub is_alignment : ℕ → Bool
-is_alignment align = align == 8 || align == 16 || align == 32 || align == 64
+is_alignment align = list_any (λ one. one == align) ALIGNS
 
 -- the bytes of which each is written as two hexadecimal digits
 abbrev pub paired_bytes : List ℕ → List ℕ

@@ -2,13 +2,13 @@
 use Rattle.std.specs.Prelude.{◌≡◌, ◌≢◌, ℕ, ◌+◌, ◌^◌, ◌<◌, ◌≤◌, ◌⊎◌, IsTrue, not, ◌&&◌, List, length, Option, Some, None, AllPairs}
 use Rattle.std.specs.List.{AllByRecursion}
 use Rattle.case_table.specs.CacheName.{is_cache_name, is_reserved_name}
+use Rattle.case_table.specs.Geometry.{IsAlign}
 use Rattle.case_table.specs.declared.cache_def.CacheDef.{CacheDef}
 use Rattle.case_table.specs.declared.limits.TheConstants.{CLASS_COUNT, MOST_CACHE_BYTES, MOST_CPUS, MOST_DECLARED, MOST_THREADS}
 use Rattle.script.specs.declared.limits.TheConstants.{FIRST_OWN_SLOT, MOST_FRAMES, MOST_OFFSET, MOST_PHASES, MOST_STORED}
 use Rattle.script.specs.declared.operation.Op.{Op}
 use Rattle.script.specs.declared.operation.Op.TheVariants.{Alloc, Zalloc, Free, CacheAlloc, CacheFree, Copy, Clear, Store, Link, Load, Reap}
 use Rattle.script.specs.declared.tree.Header.{Header}
-use Rattle.script.specs.Fields.{is_alignment}
 use Rattle.script.specs.Limits.{most_calls}
 use Rattle.script.specs.Plan.{Turn, Plan, call_count}
 
@@ -58,7 +58,7 @@ IsConstructor version (Some byte) = (version ≡ 2) × (byte < 256)
 pub record IsDeclarable (version : ℕ) (def : CacheDef) : Type 0 where
   pub name : IsTrue (is_cache_name def.name && not (is_reserved_name def.name))
   pub size : (1 ≤ def.size) × (def.size ≤ MOST_CACHE_BYTES)
-  pub align : IsTrue (is_alignment def.align)
+  pub align : IsAlign def.align
   pub ctor : IsConstructor version def.ctor
 
 -- the rules and limits of what stands before the phases

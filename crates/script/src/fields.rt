@@ -7,6 +7,7 @@ ghost use Rattle.script.specs.Reading.{Gives, too_many_fault};
 use crate::limits::{FIRST_OWN_SLOT, MOST_FRAMES, MOST_STORED};
 use crate::line_fault::LineFault;
 use crate::reasons::Reason;
+use case_table::ALIGNS;
 use hex::FromHexError;
 use std::alloc::Global;
 use umem_base::{BadNumber, Stack, Text, read_decimal, read_hex, split_once};
@@ -47,7 +48,7 @@ pub(crate) fn read_alignment(word: &[u8]) -> Result<u32, LineFault>
 fn is_alignment(align: u64) -> bool
     ensures { result ≡ is_alignment align }
 {
-    align == 8 || align == 16 || align == 32 || align == 64
+    ALIGNS.contains(&align)
 }
 
 /// Reads a slot of the version.

@@ -2,7 +2,7 @@ ghost use Rattle.std.specs.Prelude.{◌≡◌, ◌+◌, ◌<◌, ◌≤◌, [], 
 ghost use Rattle.std.specs.List.{AllByRecursion, flat_map};
 ghost use Rattle.script.specs.OpWords.{cache_word, op_word, op_words};
 ghost use Rattle.script.specs.Plan.{plan_of, turn_of, turns_of};
-ghost use Rattle.script.specs.PlanText.{HasAllCaches, HasCache, HasCaches, cache_words, cached_words, header_words, line_text, phase_text, spaced, stack_words, step_text, text_of, word_text};
+ghost use Rattle.script.specs.PlanText.{HasAllCaches, HasCache, HasCaches, IsFront, cache_words, cached_words, header_words, line_text, phase_text, spaced, stack_words, step_text, text_of, word_text};
 
 use crate::operation::{Op, OpName};
 use crate::put_words::{put_behind, put_words};
@@ -113,7 +113,8 @@ fn cache_name(caches: &[CacheDef], cache: u32) -> &[u8]
 
 // Appends a line of words, with its end.
 fn put_line(out: &mut Text, first: TextWord<'_>, more: &[TextWord<'_>]) -> Result<(), NoMemory>
-    ensures { OnOk result (out.new ≡ out.old ++ line_text (word_text first.entry ∷ map word_text more.now)) }
+    ensures ok { OnOk result (out.new ≡ out.old ++ line_text (word_text first.entry ∷ map word_text more.now)) }
+    ensures front { IsFront out.old out.new }
 {
     put_words(out, first, more)?;
     out.push_slice(b"\n")
@@ -135,10 +136,23 @@ fn put_header(out: &mut Text, header: &Header) -> Result<(), NoMemory>
     )
 }
 
-/// Appends the line of each declared cache, with its end. It takes memory only where `out` grows. On refusal a part
-/// of the lines may stand behind what `out` was.
+/// Appends the line of each declared cache, with its end. It takes memory only where `out` grows. On refusal `out`
+/// is as before.
 pub fn put_caches(out: &mut Text, caches: &[CacheDef]) -> Result<(), NoMemory>
-    ensures { OnOk result (out.new ≡ out.old ++ flat_map (λ def. line_text (cache_words def)) caches.now) }
+    ensures ok { OnOk result (out.new ≡ out.old ++ flat_map (λ def. line_text (cache_words def)) caches.now) }
+    ensures err { OnErr result (out.new ≡ out.old) }
+{
+    let before = out.as_slice().len();
+    let put = put_each_cache(out, caches);
+    if put.is_err() {
+        out.truncate(before);
+    }
+    put
+}
+
+fn put_each_cache(out: &mut Text, caches: &[CacheDef]) -> Result<(), NoMemory>
+    ensures ok { OnOk result (out.new ≡ out.old ++ flat_map (λ def. line_text (cache_words def)) caches.now) }
+    ensures front { IsFront out.old out.new }
 {
     for def in caches {
         put_cache(out, def)?;
@@ -147,7 +161,8 @@ pub fn put_caches(out: &mut Text, caches: &[CacheDef]) -> Result<(), NoMemory>
 }
 
 fn put_cache(out: &mut Text, def: &CacheDef) -> Result<(), NoMemory>
-    ensures { OnOk result (out.new ≡ out.old ++ line_text (cache_words def.now)) }
+    ensures ok { OnOk result (out.new ≡ out.old ++ line_text (cache_words def.now)) }
+    ensures front { IsFront out.old out.new }
 {
     let name = Bytes(def.name.as_slice());
     let first = Bytes(b"cache");

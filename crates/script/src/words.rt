@@ -58,7 +58,12 @@ fn find_word(line: &[u8]) -> Option<usize>
 pub(crate) fn is_line(bytes: &[u8]) -> bool
     ensures { result ≡ list_all is_line_byte bytes.now }
 {
-    bytes.iter().all(|byte| is_line_byte(*byte))
+    // It looks at each byte, whatever the ones before are: so the compiler takes many at once.
+    let mut fine = true;
+    for byte in bytes {
+        fine &= is_line_byte(*byte);
+    }
+    fine
 }
 
 fn is_line_byte(byte: u8) -> bool
