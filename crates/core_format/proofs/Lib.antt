@@ -1,0 +1,13 @@
+pub mod Records
+pub mod ItemsLemmas
+pub mod CacheLemmas
+pub mod RangeLemmas
+pub mod IndexLemmas
+pub mod SlabTableLemmas
+pub mod ListLemmas
+pub mod PageLemmas
+pub mod LawLemmas
+pub mod SpellingLemmas
+pub mod SectionLemmas
+pub mod PutLemmas
+pub mod CoreLemmas

@@ -1,0 +1,17 @@
+pub mod Reader
+pub mod Header
+pub mod Items
+pub mod Segments
+pub mod Slabs
+pub mod Magazines
+pub mod Logs
+pub mod Caches
+pub mod PageBytes
+pub mod Cores
+pub mod Ranges
+pub mod SlabTable
+pub mod Chunks
+pub mod Sections
+pub mod Spelling
+pub mod FaultWords
+pub mod Numbers

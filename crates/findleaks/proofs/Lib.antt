@@ -1,0 +1,5 @@
+pub mod FoundLemmas
+pub mod FollowLemmas
+pub mod WordsLemmas
+pub mod ClassesLemmas
+pub mod ChainsLemmas

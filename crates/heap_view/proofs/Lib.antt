@@ -1,0 +1,12 @@
+pub mod ListLemmas
+pub mod PartsLemmas
+pub mod ReadLemmas
+pub mod LayoutLemmas
+pub mod SortLemmas
+pub mod BuffersLemmas
+pub mod MemoryLemmas
+pub mod BytesLemmas
+pub mod SearchLemmas
+pub mod NumbersLemmas
+pub mod HitsLemmas
+pub mod WhatisLemmas

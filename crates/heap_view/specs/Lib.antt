@@ -1,0 +1,9 @@
+pub mod Buffers
+pub mod Points
+pub mod Memory
+pub mod Reached
+pub mod Hits
+pub mod Whatis
+pub mod Layout
+pub mod View
+pub mod Search

@@ -1,0 +1,4 @@
+pub mod AuditLemmas
+pub mod UsageLemmas
+pub mod TallyLemmas
+pub mod GroupLemmas

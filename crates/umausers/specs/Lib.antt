@@ -1,0 +1,3 @@
+pub mod Usages
+pub mod Tally
+pub mod Groups

@@ -1,0 +1,6 @@
+/// What the chunks of a usage come to.
+#[derive(Clone, Copy, Debug, PartialEq, Eq)]
+pub struct Sum {
+    pub total: u64,
+    pub count: u64,
+}
