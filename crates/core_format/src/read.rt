@@ -1,6 +1,6 @@
 ghost use Rattle.std.specs.Prelude.{◌≡◌, ◌<◌, [], IfOk};
 ghost use Rattle.core_format.specs.Header.{HasFewCaches};
-ghost use Rattle.core_format.specs.Cores.{core_of, core_of_parts, front_at, middle_at, records_in};
+ghost use Rattle.core_format.specs.Cores.{MeetsTheRules, core_of, core_of_parts, front_at, middle_at, records_in};
 ghost use Rattle.core_format.specs.Caches.{shapes_of};
 ghost use Rattle.core_format.specs.Sections.{ReadsItem};
 ghost use Rattle.core_format.specs.Reader.{ReadsAs};
@@ -141,7 +141,8 @@ fn core_of_parts(
 /// it. The format is this project's own.
 #[tactic(auto, unfolding(crate::specs::Cores::core_of))]
 pub fn read_core(alloc: Global, bytes: &[u8]) -> Result<Core, CoreFault>
-    ensures { ReadsAs (λ core. core) result (core_of bytes.now) }
+    ensures read { ReadsAs (λ core. core) result (core_of bytes.now) }
+    ensures meets { IfOk result (λ core. MeetsTheRules core) }
 {
     let mut reader = Reader::new(bytes);
     let (front, shapes) = front(alloc, &mut reader)?;
