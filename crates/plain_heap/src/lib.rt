@@ -17,6 +17,3 @@ pub use history::History;
 pub use live::Live;
 pub use reply::{Reply, Report};
 pub use text::transcript;
-
-#[cfg(test)]
-mod tests;

@@ -1,6 +1,7 @@
 //! What the definitions of this crate give, for contracts that speak of them and call nothing here.
 
-ghost use Rattle.std.specs.Prelude.{◌≡◌, ℕ, List};
+ghost use Rattle.std.specs.Prelude.{◌≡◌, ℕ, List, [], ◌∷◌};
+ghost use Rattle.script.specs.Generated.{draws};
 ghost use Rattle.script.specs.Grammar.{script_of};
 ghost use Rattle.script.specs.Plan.{Plan};
 ghost use Rattle.script.specs.PlanText.{HasAllCaches, HasShortText, text_of};
@@ -21,4 +22,11 @@ pub fn read_plans_keep_the_rules()
 /// A plan that keeps the rules names declared caches alone, so its text can be written.
 pub fn plans_have_their_caches()
     ensures { (plan : Plan) → IsPlan plan → HasAllCaches plan }
+{}
+
+/// The first draws from two seeds, as numbers: code and definitions share the constants of the generator, so
+/// nothing else here would refuse an exchange of two.
+pub fn draws_have_their_numbers()
+    ensures from_0 { draws 0 3 ≡ 167951807 ∷ 218396424 ∷ 1299921937 ∷ [] }
+    ensures from_1 { draws 1 1 ≡ 908834774 ∷ [] }
 {}

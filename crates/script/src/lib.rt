@@ -36,8 +36,3 @@ pub use plan_text::{put_caches, put_op, script_text};
 pub use read::read_script;
 pub use reasons::Reason;
 pub use tree::{Header, Phase, Script, Step};
-
-#[cfg(test)]
-mod read_tests;
-#[cfg(test)]
-mod text_tests;

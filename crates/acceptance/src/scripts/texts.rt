@@ -1,13 +1,12 @@
+//! Scripts that are written, and drawn from a seed.
+
 ghost use Rattle.std.specs.Prelude.{◌≤◌, [], ◌∷◌, IfOk};
 ghost use Rattle.script.specs.Plan.{plan_of};
 ghost use Rattle.script.specs.PlanText.{HasAllCaches, HasCache};
 
-use crate::limits::MOST_CALLS_1;
-use crate::make::{draw_of, make_script, next_state};
-use crate::operation::Op;
-use crate::plan_text::{put_op, script_text};
-use crate::tree::{Header, Phase, Script, Step};
 use case_table::CacheDef;
+use script::laws::plans_have_their_caches;
+use script::{Header, MOST_CALLS_1, Op, Phase, Script, Step, make_script, put_op, script_text};
 use std::alloc::Global;
 use std::process::Abort;
 use std::test::Fail;
@@ -90,6 +89,7 @@ fn check_drawn(
 ) -> Result<(), Fail>
     requires { ops ≤ MOST_CALLS_1 }
 {
+    plans_have_their_caches();
     let script = make_script(alloc, seed, ops)?;
     let text = script_text(alloc, &script)?;
     assert_eq!(rt; text.as_slice(), wanted);
@@ -116,17 +116,6 @@ fn draws_scripts(rt: HostRuntime) -> Result<(), Fail> {
         1,
         b"umem 1 cpus 1 threads 1\nphase\n0 alloc $23 224\n",
     )
-}
-
-#[test]
-fn draws_numbers(rt: HostRuntime) -> Result<(), Fail> {
-    let mut state = 0;
-    for wanted in [167_951_807, 218_396_424, 1_299_921_937] {
-        state = next_state(state);
-        assert_eq!(rt; draw_of(state), wanted);
-    }
-    assert_eq!(rt; draw_of(next_state(1)), 908_834_774);
-    Ok(())
 }
 
 // A script of one cache and one call.

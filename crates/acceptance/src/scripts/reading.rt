@@ -1,7 +1,6 @@
-use crate::fault::ScriptFault;
-use crate::read::read_script;
-use crate::reasons::Reason;
-use crate::tree::Script;
+//! Scripts that are read, and the first bad line of bytes that are none.
+
+use script::{Reason, Script, ScriptFault, read_script};
 use std::alloc::Global;
 use std::process::Abort;
 use std::test::Fail;

@@ -1,9 +1,11 @@
+//! Histories: their printed lines, how they compare, and what frees are answered.
+
 ghost use Rattle.std.specs.Prelude.{◌≡◌, [], ◌∷◌, length, IfOk};
 ghost use Rattle.plain_heap.specs.declared.entry.Body.TheVariants as body;
 ghost use Rattle.plain_heap.specs.Texts.{HasItsCache};
 
-use super::*;
 use case_table::CacheDef;
+use plain_heap::{Body, Entry, History, Live, Reply, Report, transcript};
 use script::{Header, Op};
 use std::alloc::Global;
 use std::process::Abort;

@@ -4,7 +4,7 @@ use Rattle.case_table.specs.declared.cache_def.CacheDef.{CacheDef}
 use Rattle.script.specs.declared.tree.Step.{Step}
 use Rattle.script.specs.Plan.{plan_of}
 use Rattle.script.specs.PlanText.{HasAllCaches, HasCache}
-use Rattle.script.proofs.text_tests.one_call.Goals as goal
+use Rattle.acceptance.proofs.scripts.texts.one_call.Goals as goal
 
 has_cache : (version cpus threads : ℕ) (caches : List CacheDef) (phases : List (BoundedVec Step)) (phase : BoundedVec Step) (def : CacheDef) (step : Step) → caches ≡ def ∷ [] → phases ≡ phase ∷ [] → phase.items ≡ step ∷ []
     → HasCache (def ∷ []) step.op → HasAllCaches (plan_of (record { header = record { version = version; cpus = cpus; threads = threads; caches = caches }; phases = phases }))

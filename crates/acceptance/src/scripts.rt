@@ -1,0 +1,4 @@
+//! Scripts that are read, drawn and written.
+
+mod reading;
+mod texts;
