@@ -18,25 +18,15 @@ use Rattle.plain_heap.specs.declared.reply.Reply.{Reply}
 use Rattle.plain_heap.specs.Calls.{Follows, IsNext, calls_of, next_call, next_in, number_of_calls, turns_in_body, turns_made}
 use Rattle.plain_heap.proofs.EntryLemmas.{follows_grow}
 use Rattle.heap_ledger.specs.declared.slab_at.SlabAt.{SlabAt}
-use Rattle.heap_ledger.specs.Ledger.{IsLedger, KeepsLegal, Ledger, after_commit, commit_entries, entry, inner_entries, run_setting, shrunk}
+use Rattle.heap_ledger.specs.Ledger.{AreInner, IsInner, IsLedger, KeepsLegal, Ledger, after_commit, commit_entries, entry, inner_entries, run_setting, shrunk}
+use Rattle.heap_ledger.specs.Laws.{CommitsCountOneCall, CommitsMakeOneCall}
 use Rattle.heap_ledger.specs.Room.{IsKept, ledger_of}
 use Rattle.heap_ledger.specs.Schedule.{AreOfThreads, IsScheduleOf, Schedule, after_take, first_left}
 use Rattle.heap_ledger.proofs.EntriesLemmas.{inner_count}
 use Rattle.heap_ledger.proofs.RoomLemmas.{one_taken, shrunk_after, standing}
-use Rattle.heap_ledger.proofs.ScheduleLemmas.{first_is_next, takes}
+use Rattle.heap_ledger.proofs.ScheduleLemmas.{first_is_next, one_more, takes}
 
 -- ---- inner entries
-
--- an entry is no call
-abbrev pub IsInner : Body → Type 0
-IsInner (body.Call op frames answer) = ⊥
-IsInner (body.Grow cache base) = Unit {0}
-IsInner (body.Shrink cache base) = Unit {0}
-
--- none of them is a call
-abbrev pub AreInner : List Body → Type 0
-AreInner [] = Unit {0}
-AreInner (inner ∷ others) = IsInner inner × AreInner others
 
 no_turn : (thread : ℕ) (inner : Body) → IsInner inner → turns_in_body thread inner ≡ []
 no_turn thread (body.Call op frames answer) is = absurd is
@@ -48,11 +38,11 @@ no_turns number thread [] are = refl
 no_turns number thread (first ∷ inner) are =
     ap (λ (turns : List Turn). turns ++ turns_made (inner_entries (number + 1) thread inner)) (no_turn thread first are.0) ∙ no_turns (number + 1) thread inner are.1
 
-made_append : (one other : List Entry) → turns_made (one ++ other) ≡ turns_made one ++ turns_made other
+pub made_append : (one other : List Entry) → turns_made (one ++ other) ≡ turns_made one ++ turns_made other
 made_append one other = flat_map-append (λ (e : Entry). turns_in_body e.thread e.body) one other
 
 -- the turns after a commit
-made_after : (entries : List Entry) (number thread : ℕ) (inner : List Body) (call : Call) (answer : Reply) → AreInner inner
+pub made_after : (entries : List Entry) (number thread : ℕ) (inner : List Body) (call : Call) (answer : Reply) → AreInner inner
     → turns_made (entries ++ commit_entries number thread inner call answer) ≡ turns_made entries ++ record { thread = thread; call = call } ∷ []
 made_after entries number thread inner call answer are =
     let last = entry (number + length inner) thread (body.Call call.op call.frames answer) ∷ [] in
@@ -204,3 +194,12 @@ module _ (script : Script) (options : Options) (logging : Logging) (schedule : S
 pub shrinks_are_inner : (slabs : List SlabAt) → AreInner (shrunk slabs)
 shrinks_are_inner [] = tt
 shrinks_are_inner (slab ∷ slabs) = (tt, shrinks_are_inner slabs)
+
+-- ---- the calls of a commit
+
+pub one_call : CommitsMakeOneCall
+one_call ledger thread inner call answer are = made_after ledger.entries (length ledger.entries) thread inner call answer are
+
+pub one_counted : CommitsCountOneCall
+one_counted ledger thread other inner call answer are =
+    ap (number_of_calls other) (one_call ledger thread inner call answer are) ∙ one_more thread other call (turns_made ledger.entries)

@@ -3,3 +3,6 @@ pub mod RoomLemmas
 pub mod EntriesLemmas
 pub mod CommitLemmas
 pub mod StartLemmas
+pub mod GrowthLemmas
+pub mod MayCommitLemmas
+pub mod PlanLemmas

@@ -104,14 +104,14 @@ sum_of_both f g [] = refl
 sum_of_both f g (x ∷ xs) =
     omega (arith, sum_by-cons (λ t. f t + g t) x xs, sum_by-cons f x xs, sum_by-cons g x xs, sum_of_both f g xs)
 
-number_first : (turn : Turn) (turns : List Turn) (thread : ℕ) → number_of_calls thread (turn ∷ turns) ≤ tell (eqb turn.thread thread) + number_of_calls thread turns
+pub number_first : (turn : Turn) (turns : List Turn) (thread : ℕ) → number_of_calls thread (turn ∷ turns) ≤ tell (eqb turn.thread thread) + number_of_calls thread turns
 number_first turn turns thread = elim (eqb_tells turn.thread thread) [
   | inl is ↦ rw is.0 (omega arith)
   | inr isnt ↦ rw isnt.0 (omega arith)
 ]
 
 -- the threads have no more calls than there are
-calls_by_threads : (turns : List Turn) (from count : ℕ) → sum_by (λ t. number_of_calls t turns) (range_with_len from count) ≤ length turns
+pub calls_by_threads : (turns : List Turn) (from count : ℕ) → sum_by (λ t. number_of_calls t turns) (range_with_len from count) ≤ length turns
 calls_by_threads [] from count = none (range_with_len from count)
   where
     none : (xs : List ℕ) → sum_by (λ t. number_of_calls t []) xs ≤ 0

@@ -36,7 +36,7 @@ calls_append thread one other =
     let its = λ (turn : Turn). eqb turn.thread thread in
     ap (map (λ (turn : Turn). turn.call)) (filter-append its one other) ∙ map-append (λ (turn : Turn). turn.call) (filter its one) (filter its other)
 
-number_append : (thread : ℕ) (one other : List Turn) → number_of_calls thread (one ++ other) ≡ number_of_calls thread one + number_of_calls thread other
+pub number_append : (thread : ℕ) (one other : List Turn) → number_of_calls thread (one ++ other) ≡ number_of_calls thread one + number_of_calls thread other
 number_append thread one other = ap length (calls_append thread one other) ∙ length-append (calls_of thread one) (calls_of thread other)
 
 number_behind : (turn : Turn) (turns : List Turn) (thread : ℕ) → eqb turn.thread thread ≡ false → number_of_calls thread (turn ∷ turns) ≡ number_of_calls thread turns
@@ -61,13 +61,13 @@ at_most N M le (turn ∷ turns) = elim (leb_tells (N turn.thread) (M turn.thread
 ]
 
 -- where all are made, each thread made all
-made_all : (turns made : List Turn) → are_all_made turns made ≡ true → (thread : ℕ) → number_of_calls thread turns ≤ number_of_calls thread made
+pub made_all : (turns made : List Turn) → are_all_made turns made ≡ true → (thread : ℕ) → number_of_calls thread turns ≤ number_of_calls thread made
 made_all turns made all thread = elim (leb_tells (number_of_calls thread turns) 0) [
   | inl none ↦ omega (arith, none.1)
   | inr some ↦ at_least (λ t. number_of_calls t turns) (λ t. number_of_calls t made) turns thread all (omega (arith, some.1))
 ]
 
-all_made : (turns made : List Turn) → ((thread : ℕ) → number_of_calls thread turns ≤ number_of_calls thread made) → are_all_made turns made ≡ true
+pub all_made : (turns made : List Turn) → ((thread : ℕ) → number_of_calls thread turns ≤ number_of_calls thread made) → are_all_made turns made ≡ true
 all_made turns made le = at_most (λ t. number_of_calls t turns) (λ t. number_of_calls t made) le turns
 
 -- ---- threads
@@ -282,7 +282,7 @@ starts plan known = settles plan [] (replicate plan.header.threads 0) [] plan.ph
 abbrev turn : ℕ → Call → Turn
 turn thread call = record { thread = thread; call = call }
 
-one_more : (thread other : ℕ) (call : Call) (made : List Turn) → number_of_calls other (made ++ turn thread call ∷ []) ≡ number_of_calls other made + cond (eqb thread other) 1 0
+pub one_more : (thread other : ℕ) (call : Call) (made : List Turn) → number_of_calls other (made ++ turn thread call ∷ []) ≡ number_of_calls other made + cond (eqb thread other) 1 0
 one_more thread other call made = number_append other made (turn thread call ∷ []) ∙ ap (λ n. number_of_calls other made + n) (single (eqb thread other) refl)
   where
     single : (b : Bool) → eqb thread other ≡ b → number_of_calls other (turn thread call ∷ []) ≡ cond (eqb thread other) 1 0
@@ -371,6 +371,15 @@ takes plan made schedule thread call is within first =
       is_behind = is.behind;
       known = is.known;
     }
+
+-- the count that the schedule keeps of a thread is that of its calls; a thread past the header's made none
+pub count_told : (plan : Plan) (made : List Turn) (schedule : Schedule) → IsScheduleOf plan made schedule → (thread : ℕ) → slice_index schedule.made thread ≡ number_of_calls thread made
+count_told plan made schedule is thread = elim (leb_tells plan.header.threads thread) [
+  | inl past ↦
+      let no_calls : calls_of thread (is.done ++ is.phase) ≡ [] = All-head (AreOfThreads plan.header.threads) (is.done ++ is.phase) is.later is.known thread past.1 in
+      get_or_past schedule.made thread 0 (omega (arith, is.threads, past.1)) ∙ omega (arith, is.most thread, ap length no_calls)
+  | inr within ↦ is.counts thread within.1
+]
 
 -- the call that the schedule tells as due is the plan's
 pub due_told : (plan : Plan) (made : List Turn) (schedule : Schedule) → IsScheduleOf plan made schedule → (thread number : ℕ)

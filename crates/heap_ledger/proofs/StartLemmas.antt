@@ -39,7 +39,7 @@ no_calls header (turn ∷ turns) are thread past = elim (eqb_tells turn.thread t
   | inr isnt ↦ rw isnt.0 (no_calls header turns are.1 thread past)
 ]
 
-each_known : (header : Header) (phases : List (List Turn)) → AllByRecursion (AllByRecursion (IsTurn header)) phases → All (AreOfThreads header.threads) phases
+pub each_known : (header : Header) (phases : List (List Turn)) → AllByRecursion (AllByRecursion (IsTurn header)) phases → All (AreOfThreads header.threads) phases
 each_known header [] are = All-nil (AreOfThreads header.threads)
 each_known header (phase ∷ phases) are = All-cons (AreOfThreads header.threads) phase phases (no_calls header phase are.0) (each_known header phases are.1)
 

@@ -1,10 +1,12 @@
 -- What a run was given, and what it made so far.
-use Rattle.std.specs.Prelude.{◌≡◌, IfSome, ℕ, ◌+◌, List, [], ◌∷◌, ◌++◌, length, map}
+use Rattle.std.specs.Prelude.{◌≡◌, IfSome, ℕ, ◌+◌, List, [], ◌∷◌, ◌++◌, length, map, Option, ⊤}
+use Rattle.std.specs.List.{AllByRecursion}
 use Rattle.umem_options.specs.declared.options.Logging.{Logging}
 use Rattle.umem_options.specs.declared.options.Options.{Options}
 use Rattle.umem_options.specs.Flags.{has_guards}
+use Rattle.script.specs.declared.tree.Header.{Header}
 use Rattle.script.specs.Plan.{Call, Plan}
-use Rattle.script.specs.Rules.{IsPlan}
+use Rattle.script.specs.Rules.{IsPlan, IsTurn}
 use Rattle.plain_heap.specs.declared.entry.Body.{Body}
 use Rattle.plain_heap.specs.declared.entry.Body.TheVariants as body
 use Rattle.plain_heap.specs.declared.entry.Entry.{Entry}
@@ -13,6 +15,7 @@ use Rattle.plain_heap.specs.Answers.{AreTidy, setting_for}
 use Rattle.plain_heap.specs.Calls.{Follows, next_call}
 use Rattle.plain_heap.specs.Legal.{IsLegal}
 use Rattle.plain_heap.specs.Setting.{Setting}
+use Rattle.plain_heap.specs.State.{State, state_of}
 use Rattle.heap_ledger.specs.declared.slab_at.SlabAt.{SlabAt}
 
 -- the plan, the options and the sizes of the logs that a run was given, and the entries that it made
@@ -25,6 +28,10 @@ pub record Ledger : Type 0 where
 -- what is fixed for the history of a run
 abbrev pub run_setting : Ledger → Setting
 run_setting ledger = setting_for (has_guards ledger.options) ledger.plan
+
+-- what the entries that were made leave
+abbrev pub run_state : Ledger → State
+run_state ledger = state_of (run_setting ledger) ledger.entries
 
 -- the entries are legal and tidy, and their calls follow the plan
 pub record IsLedger (ledger : Ledger) : Type 0 where
@@ -40,6 +47,20 @@ grown slab = body.Grow slab.cache slab.base
 -- the inner entries of slabs that were given back
 abbrev pub shrunk : List SlabAt → List Body
 shrunk slabs = map (λ slab. body.Shrink slab.cache slab.base) slabs
+
+-- a call of a thread, if there is one, is a turn of the header, and so keeps its limits
+abbrev pub KeepsTurnLimits : Header → ℕ → Option Call → Type 0
+KeepsTurnLimits header thread call = IfSome call (λ its. IsTurn header (record { thread = thread; call = its }))
+
+-- the body of an inner entry, which is no call
+abbrev pub IsInner : Body → Type 0
+IsInner (body.Call op frames answer) = ⊥
+IsInner (body.Grow cache base) = ⊤
+IsInner (body.Shrink cache base) = ⊤
+
+-- none of them is a call
+abbrev pub AreInner : List Body → Type 0
+AreInner inner = AllByRecursion IsInner inner
 
 -- an entry
 abbrev pub entry : ℕ → ℕ → Body → Entry

@@ -1,4 +1,5 @@
--- What a ledger keeps beside its entries: the calls that are left, and room for what they add.
+-- What a ledger keeps beside its entries: the calls that are left, and room for what they add. Inner: no public clause
+-- speaks of these.
 use Rattle.std.specs.Prelude.{ℕ, ◌+◌, ◌*◌, ◌^◌, ◌<◌, ◌≤◌, List, length, sum_by}
 use Rattle.umem_base.specs.BoundedVec.{BoundedVec}
 use Rattle.umem_options.specs.declared.options.Logging.{Logging}

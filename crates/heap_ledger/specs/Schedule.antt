@@ -1,4 +1,4 @@
--- Which calls of a plan are left, and which of them is next.
+-- Which calls of a plan are left, and which of them is next. Inner: no public clause speaks of these.
 use Rattle.std.specs.Prelude.{◌≡◌, ℕ, ◌+◌, ◌<◌, ◌≤◌, ◌⊎◌, Bool, false, ◌==◌, List, [], ◌∷◌, ◌++◌, Option, Some, None, All, map, drop, length, replicate, slice_get, slice_index, slice_index_or, slice_set, if◌then◌else◌}
 use Rattle.std.specs.List.{list_all, range_with_len}
 use Rattle.std.specs.Option.{option_eq}

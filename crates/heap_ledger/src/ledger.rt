@@ -1,8 +1,8 @@
 ghost use Rattle.std.specs.Prelude.{◌≡◌, ◌+◌, ◌^◌, ◌<◌, ◌≤◌, ◌↔◌, ◌∷◌, ◌++◌, [], IfOk, IsSome, IsTrue, length, option_map, sum_by};
 ghost use Rattle.script.specs.Plan.{plan_of};
 ghost use Rattle.script.specs.Rules.{IsPlan};
-ghost use Rattle.plain_heap.specs.Calls.{due_call, next_call};
-ghost use Rattle.heap_ledger.specs.Ledger.{Commits, IsLedger, MayCommit, commit_entries, entry, grown, inner_entries, shrunk};
+ghost use Rattle.plain_heap.specs.Calls.{due_call, next_call, number_of_calls, turns_made};
+ghost use Rattle.heap_ledger.specs.Ledger.{Commits, IsLedger, KeepsTurnLimits, MayCommit, commit_entries, entry, grown, inner_entries, shrunk};
 
 use crate::ready::Ready;
 use crate::schedule::Schedule;
@@ -78,19 +78,53 @@ impl Ledger {
         self.script.says_the_same(script) && self.options == *options && self.logging == *logging
     }
 
+    /// The header of the script.
     pub fn header(&self) -> &Header
         ensures { result.now ≡ self.now.plan.header }
     {
         &self.script.header
     }
 
+    /// The options that it was given.
+    pub fn options(&self) -> &Options
+        ensures { result.now ≡ self.now.options }
+    {
+        &self.options
+    }
+
+    /// The sizes of the logs that it was given.
+    pub fn logging(&self) -> &Logging
+        ensures { result.now ≡ self.now.logging }
+    {
+        &self.logging
+    }
+
+    /// How many calls a thread made: the number of its next one. A thread that the script has not made none.
+    pub fn calls_made(&self, thread: u32) -> u32
+        ensures { result ≡ number_of_calls thread (turns_made self.now.entries) }
+    {
+        self.schedule.made_by(thread)
+    }
+
+    /// The call that a thread makes next, if it has one. A run that makes the next call of the lowest thread that has
+    /// one, again and again, makes all calls phase by phase; to let each thread make all of its calls before the next
+    /// thread's would leave calls of a later phase that wait for another thread.
+    pub fn next(&self, thread: u32) -> Option<&Ready>
+        ensures call { option_map (λ ready. ready.now) result ≡ next_call self.now.plan self.now.entries thread }
+        ensures limits { KeepsTurnLimits self.now.plan.header thread (option_map (λ ready. ready.now) result) }
+    {
+        self.schedule.next(thread)
+    }
+
     /// The call of a thread of that number, counted from 0 for each thread, if it is the next one of the thread.
     pub fn due(&self, thread: u32, call: u32) -> Option<&Ready>
-        ensures { option_map (λ ready. ready.now) result ≡ due_call self.now.plan self.now.entries thread call }
+        ensures call { option_map (λ ready. ready.now) result ≡ due_call self.now.plan self.now.entries thread call }
+        ensures limits { KeepsTurnLimits self.now.plan.header thread (option_map (λ ready. ready.now) result) }
     {
         self.schedule.due(thread, call)
     }
 
+    /// The entries.
     pub fn history(&self) -> &History
         ensures entries { result.now.items ≡ self.now.entries }
         ensures sound { IsLedger self.now }
@@ -98,6 +132,7 @@ impl Ledger {
         &self.history
     }
 
+    /// The entries, of a run that is over.
     pub fn into_history(self) -> History
         ensures entries { result.items ≡ self.entries }
         ensures sound { IsLedger self }

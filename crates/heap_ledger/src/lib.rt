@@ -2,6 +2,7 @@
 //! the entries of its history. The order of the calls is kept here.
 #![tactic(auto)]
 
+pub mod laws;
 mod ledger;
 mod phase_calls;
 mod queue;

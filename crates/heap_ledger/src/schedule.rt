@@ -53,6 +53,20 @@ impl Schedule {
         Ok(schedule)
     }
 
+    /// How many calls a thread made.
+    pub fn made_by(&self, thread: u32) -> u32
+        ensures { result ≡ slice_index self.now.made thread }
+    {
+        self.made.get(thread as usize).copied().unwrap_or(0)
+    }
+
+    /// The call that a thread makes next, if it has one in the phase that runs.
+    pub fn next(&self, thread: u32) -> Option<&Ready>
+        ensures { option_map (λ ready. ready.now) result ≡ first_left self.now.phase thread }
+    {
+        self.phase.first(thread)
+    }
+
     /// The call of a thread of that number, if it is its next one.
     pub fn due(&self, thread: u32, call: u32) -> Option<&Ready>
         ensures { option_map (λ ready. ready.now) result ≡ due_in self.now thread call }

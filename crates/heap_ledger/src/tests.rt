@@ -13,9 +13,9 @@ phase
 1 alloc $5 0
 ";
 
-/// The calls of two threads come due phase by phase, each thread's in order.
+/// Before the first call the first call of each thread is due, and no other is.
 #[test]
-fn lets_phases_run_one_after_another(rt: HostRuntime) -> Result<(), Failed> {
+fn only_the_first_calls_are_due_at_the_start(rt: HostRuntime) -> Result<(), Failed> {
     let alloc = rt.alloc();
     let script = read_script(alloc, SCRIPT).ok().ok_or("a script")?;
     let options = read_debug(b"guards");
@@ -30,6 +30,8 @@ fn lets_phases_run_one_after_another(rt: HostRuntime) -> Result<(), Failed> {
         (2, 0, false),
     ] {
         assert_eq!(rt; ledger.due(thread, call).is_some(), is_due);
+        assert_eq!(rt; ledger.next(thread).is_some(), thread < 2);
+        assert_eq!(rt; ledger.calls_made(thread), 0);
     }
     Ok(())
 }
