@@ -1,0 +1,6 @@
+mod WriteLemmas
+mod PagesLemmas
+mod StateLemmas
+mod ChunkLemmas
+mod MadeLemmas
+mod StartLemmas

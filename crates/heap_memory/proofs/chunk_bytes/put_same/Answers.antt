@@ -1,0 +1,4 @@
+use Rattle.heap_memory.proofs.chunk_bytes.put_same.Goals as goal
+
+pub returns-clause-sound : goal.returns-clause-sound
+returns-clause-sound c = c.bytes_mut_in_run.ensures.sound _
