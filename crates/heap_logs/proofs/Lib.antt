@@ -1,0 +1,4 @@
+pub mod GrowthLemmas
+pub mod PassedLemmas
+pub mod AuditLemmas
+pub mod ChunkLemmas
