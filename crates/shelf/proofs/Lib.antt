@@ -1,0 +1,9 @@
+pub mod CpusLemmas
+pub mod DrainLemmas
+pub mod HeldLemmas
+pub mod Lists
+pub mod OutLemmas
+pub mod PartsLemmas
+pub mod StandingLemmas
+pub mod StepsLemmas
+pub mod StockLemmas

@@ -1,0 +1,4 @@
+pub mod Laws
+pub mod Shelf
+pub mod Steps
+pub mod Stock
