@@ -1,0 +1,10 @@
+pub mod Columns
+pub mod Names
+pub mod CacheLines
+pub mod Findings
+pub mod Transactions
+pub mod Contents
+pub mod Users
+pub mod Leaks
+pub mod Walks
+pub mod Answers
