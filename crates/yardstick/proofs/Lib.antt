@@ -1,0 +1,9 @@
+pub mod CachesLemmas
+pub mod ChunksLemmas
+pub mod FreeChunkLemmas
+pub mod LegalLemmas
+pub mod PagesLemmas
+pub mod RepliesLemmas
+pub mod StepsLemmas
+pub mod TestsLemmas
+pub mod WritesLemmas
