@@ -1,7 +1,10 @@
--- Lists that several crates speak of: what stands in one, and one item more.
-use Rattle.std.proofs.Common.{◌≡◌, ℕ, suc, ◌+◌, ◌-◌, ◌<◌, ◌≤◌, List, ◌∷◌, length, get_or, refl, arith, inl, inr}
-use Rattle.std.specs.Prelude.{AllPairs, Contains, insert}
-use Rattle.std.proofs.lemmas.Bool.{cases_order}
+-- Lists that several crates speak of: what stands in one, one item more, what is left behind a place, and the first
+-- place that passes a test.
+use Rattle.std.proofs.Common.{◌≡◌, ℕ, zero, suc, ◌+◌, ◌-◌, ◌<◌, ◌≤◌, Bool, true, false, cond, List, [], ◌∷◌, length, get_or, take, drop, length-drop, Some, None, refl, arith, inl, inr}
+use Rattle.std.specs.Prelude.{AllPairs, Contains, insert, not, nat_lt, position}
+use Rattle.std.specs.List.{position_or_len}
+use Rattle.std.proofs.lemmas.Bool.{cases_order, ltb-false}
+use Rattle.std.proofs.lemmas.List.{take_all}
 use Rattle.std.proofs.lemmas.List.Edits.{length-insert, get_or-insert_below, get_or-insert_at, get_or-insert_above}
 
 pub Contains-here : {X : Type 0} (x : X) (xs : List X) → Contains (x ∷ xs) x
@@ -30,3 +33,25 @@ AllPairs-insert R xs n y within pairs below above i j d ij jl =
           let up' : i - 1 + 1 ≡ i = omega arith in
           rw (← up, ← up', get_or-insert_above xs n y d (i - 1) (omega arith) within, get_or-insert_above xs n y d (j - 1) (omega arith) within) (pairs (i - 1) (j - 1) d (omega arith) (omega arith))
     ]
+
+-- a slice from a place to the end
+pub slice_rest : (xs : List ℕ) (at : ℕ) → take (length xs - at) (drop at xs) ≡ drop at xs
+slice_rest xs at = take_all _ _ (omega (arith, length-drop at xs))
+
+none_before_len : {X : Type 0} (p : X → Bool) (xs : List X) (d : X) → length xs ≤ position_or_len p xs → (k : ℕ) → k < length xs → p (get_or xs k d) ≡ false
+none_before_len p [] d le k lt = absurd (omega arith)
+none_before_len p (x ∷ xs) d le k lt = go (p x) refl le k lt (none_before_len p xs d)
+  where
+    go : (b : Bool) → p x ≡ b → suc (length xs) ≤ cond (not b) (1 + position_or_len p xs) 0 → (k : ℕ) → k < suc (length xs)
+        → (length xs ≤ position_or_len p xs → (k : ℕ) → k < length xs → p (get_or xs k d) ≡ false) → p (get_or (x ∷ xs) k d) ≡ false
+    go true e le k lt h = absurd (omega arith)
+    go false e le zero lt h = e
+    go false e le (suc k) lt h = h (omega arith) k (omega arith)
+
+-- no place passes
+pub position-None : {X : Type 0} (p : X → Bool) (xs : List X) (d : X) → position p xs ≡ None → (k : ℕ) → k < length xs → p (get_or xs k d) ≡ false
+position-None p xs d h k lt = none_before_len p xs d (far (nat_lt (position_or_len p xs) (length xs)) refl h) k lt
+  where
+    far : (b : Bool) → nat_lt (position_or_len p xs) (length xs) ≡ b → cond b (Some (position_or_len p xs)) None ≡ None → length xs ≤ position_or_len p xs
+    far true e h = absurd (cc h)
+    far false e h = omega (arith, ltb-false _ _ e)

@@ -1,10 +1,6 @@
 -- One read from memory.
-use Rattle.std.proofs.Common.{◌≡◌, ℕ, ◌+◌, ◌-◌, ◌<◌, min, List, [], ◌++◌, length, take, drop, length-take, length-drop, length-append, sym, ap, arith}
-use Rattle.std.proofs.lemmas.List.{take_at, take-append-drop, nil_from_length, drop-drop, take_all}
-
--- a slice from a place to the end
-pub slice_rest : (bytes : List ℕ) (at : ℕ) → take (length bytes - at) (drop at bytes) ≡ drop at bytes
-slice_rest bytes at = take_all _ _ (omega (arith, length-drop at bytes))
+use Rattle.std.proofs.Common.{◌≡◌, ℕ, ◌+◌, ◌<◌, min, List, [], ◌++◌, length, take, drop, length-take, length-drop, length-append, sym, ap, arith}
+use Rattle.std.proofs.lemmas.List.{take_at, take-append-drop, nil_from_length, drop-drop}
 
 -- what was left is what was moved into the buffer's front, and what is left now
 pub moves : (bytes buffer front : List ℕ) (at count : ℕ) → count ≡ min (length (drop at bytes)) (length buffer) → front ≡ take count (drop at bytes)

@@ -5,6 +5,7 @@ pub mod FaultPlan
 pub mod Faults
 pub mod Files
 pub mod Folder
+pub mod Lines
 pub mod MemFolder
 pub mod MemSink
 pub mod MemSource

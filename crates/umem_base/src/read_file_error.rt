@@ -1,8 +1,9 @@
 ghost use Rattle.std.specs.Prelude.{◌≡◌};
-ghost use Rattle.umem_base.specs.declared.read_file_error.ReadFile.TheVariants.{ReadFault, NoMemory};
+ghost use Rattle.umem_base.specs.Transfer.{file_refusal};
+ghost use Rattle.umem_base.specs.declared.read_file_error.ReadFile.TheVariants.{ReadFault};
 
 use crate::outside::Failed;
-use std::alloc::{AllocError, AllocFailed};
+use crate::read_all_error::ReadAll;
 
 /// Why a file was not read.
 #[derive(Clone, Copy, Debug, PartialEq, Eq)]
@@ -24,10 +25,14 @@ impl From<Failed> for ReadFile {
     }
 }
 
-impl From<AllocError> for ReadFile {
-    ghost from_gives = { λ _ e. e ≡ NoMemory };
+impl From<ReadAll> for ReadFile {
+    ghost from_gives = { λ refusal e. e ≡ file_refusal refusal };
 
-    fn from(_: AllocError) -> ReadFile {
-        ReadFile::NoMemory
+    fn from(refusal: ReadAll) -> ReadFile {
+        match refusal {
+            ReadAll::ReadFault => ReadFile::ReadFault,
+            ReadAll::TooLong => ReadFile::TooLong,
+            ReadAll::NoMemory => ReadFile::NoMemory,
+        }
     }
 }

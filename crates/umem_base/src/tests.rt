@@ -174,6 +174,27 @@ fn reads_whole_files(rt: HostRuntime) -> Result<(), Fail> {
     Ok(())
 }
 
+// The calls are one read for each piece of 4096 bytes, and one that finds the end.
+#[test]
+fn reads_all_of_a_source(rt: HostRuntime) -> Result<(), Fail> {
+    let alloc = rt.alloc();
+    let bytes = vec![in alloc; 7; 5000]?;
+    for (failing, limit, want) in [
+        (9, 5000, Ok(bytes.as_slice())),
+        (9, 4999, Err(ReadAll::TooLong)),
+        (9, 0, Err(ReadAll::TooLong)),
+        (0, 5000, Err(ReadAll::ReadFault)),
+        (2, 5000, Err(ReadAll::ReadFault)),
+    ] {
+        let mut source = MemSource::new(bytes.clone()?, vec![in alloc; failing]?);
+        match read_all(alloc, &mut source, limit) {
+            Ok(read) => assert_eq!(rt; Ok(read.as_slice()), want),
+            Err(fault) => assert_eq!(rt; Err(fault), want),
+        }
+    }
+    Ok(())
+}
+
 // A write takes 4 bytes at most.
 #[test]
 fn writes_whole_pieces(rt: HostRuntime) -> Result<(), Fail> {
@@ -222,4 +243,43 @@ fn folder_keeps_what_was_written(rt: HostRuntime) -> Result<(), Fail> {
         assert_eq!(rt; files.file(&name), Some(kept));
     }
     Ok(())
+}
+
+// The calls are the creation and one write. Only `a` can be created.
+#[test]
+fn writes_whole_files(rt: HostRuntime) -> Result<(), Fail> {
+    let alloc = rt.alloc();
+    let created = Text::from_slice(alloc, b"a")?;
+    for (failing, name, room, want, kept) in [
+        (9, b"a".as_slice(), 4, Ok(()), b"0123".as_slice()),
+        (0, b"a", 4, Err(WriteFile::NotCreated), b"old"),
+        (9, b"b", 4, Err(WriteFile::NotCreated), b"old"),
+        (1, b"a", 4, Err(WriteFile::NotWritten), b""),
+        (9, b"a", 3, Err(WriteFile::NotWritten), b""),
+    ] {
+        let mut files = MemFolder::new(alloc, vec![in alloc; failing]?);
+        files.put(&created, b"old", room)?;
+        let name = Text::from_slice(alloc, name)?;
+        assert_eq!(rt; write_file(&mut files, &name, b"0123"), want);
+        assert_eq!(rt; files.file(&created), Some(kept));
+    }
+    Ok(())
+}
+
+#[test]
+fn splits_lines_into_words(rt: HostRuntime) {
+    for (bytes, line, behind, word) in [
+        (
+            b"a b\nc".as_slice(),
+            b"a b".as_slice(),
+            b"c".as_slice(),
+            Some((b"a".as_slice(), b" b".as_slice())),
+        ),
+        (b"\t\r x", b"\t\r x", b"", Some((b"x", b""))),
+        (b" \n", b" ", b"", None),
+        (b"\n\n", b"", b"\n", None),
+    ] {
+        assert_eq!(rt; split_line(bytes), (line, behind));
+        assert_eq!(rt; split_word(line), word);
+    }
 }

@@ -1,15 +1,15 @@
 ghost use Rattle.std.specs.Prelude.{◌≡◌};
 ghost use Rattle.umem_base.specs.Faults.{Counts};
-ghost use Rattle.umem_base.specs.Folder.{IsReading, left_of, bytes_of};
-ghost use Rattle.umem_base.specs.Transfer.{ReadsAll, ReadsFile, CountsReadFault, LeavesActivity, WritesWhole};
+ghost use Rattle.umem_base.specs.Folder.{bytes_of};
+ghost use Rattle.umem_base.specs.Transfer.{ReadsAll, ReadsFile, CountsFault, CountsReadFault, LeavesActivity, LeavesBehind, LeavesWriting, WritesFile, WritesWhole};
 
-use crate::outside::{Failed, Folder, Sink};
+use crate::outside::{Failed, Folder, Sink, Source};
+use crate::pieces::{OfFolder, OfSource, read_left};
+use crate::read_all_error::ReadAll;
 use crate::read_file_error::ReadFile;
 use crate::text::Text;
+use crate::write_file_error::WriteFile;
 use std::alloc::Global;
-
-// How many bytes one read asks for.
-const PIECE: usize = 4096;
 
 /// A sink failed before it had taken a whole piece.
 #[derive(Clone, Copy, Debug, PartialEq, Eq)]
@@ -37,34 +37,20 @@ pub fn read_file<F: Folder>(
     ensures write_faults { F.write_faults files.new ≡ F.write_faults files.old }
 {
     if files.open_read(name)? {
-        read_open(alloc, files, limit)
+        Ok(read_left::<F, OfFolder>(alloc, files, limit)?)
     } else {
         Err(ReadFile::Missing)
     }
 }
 
-// The bytes left of the file that the folder reads.
-fn read_open<F: Folder>(alloc: Global, files: &mut F, limit: usize) -> Result<Vec<u8>, ReadFile>
-    requires { IsReading (F.activity files.old) }
-    ensures bytes { ReadsAll (left_of (F.activity files.old)) limit result }
-    ensures cause { CountsReadFault (F.read_faults files.old) (F.read_faults files.new) result }
-    ensures activity { LeavesActivity (left_of (F.activity files.old)) limit
-        (F.activity files.old) (F.activity files.new) result }
-    ensures files { F.files files.new ≡ F.files files.old }
-    ensures write_faults { F.write_faults files.new ≡ F.write_faults files.old }
+/// The bytes left of a source, if they are at most `limit`. A refusal leaves the source behind what was read until
+/// then. A source without end is too long.
+pub fn read_all<S: Source>(alloc: Global, from: &mut S, limit: usize) -> Result<Vec<u8>, ReadAll>
+    ensures bytes { ReadsAll (S.left from.old) limit result }
+    ensures cause { CountsFault (S.faults from.old) (S.faults from.new) result }
+    ensures left { LeavesBehind (S.left from.old) limit (S.left from.new) result }
 {
-    let mut bytes = Vec::new(alloc);
-    let mut piece = [0; PIECE];
-    loop {
-        let came = files.read(&mut piece)?;
-        if came == 0 {
-            return Ok(bytes);
-        }
-        if came > limit - bytes.len() {
-            return Err(ReadFile::TooLong);
-        }
-        bytes.extend_from_slice(&piece[..came])?;
-    }
+    read_left::<S, OfSource>(alloc, from, limit)
 }
 
 /// Writes all of the bytes. It takes no memory.
@@ -75,6 +61,27 @@ pub fn write_whole<K: Sink>(to: &mut K, bytes: &[u8]) -> Result<(), WriteFault>
     let mut at = 0;
     while at < bytes.len() {
         at += to.write(&bytes[at..])?;
+    }
+    Ok(())
+}
+
+/// Creates the file, or empties it where it is there, and writes all of the bytes. After `NotCreated` the folder is
+/// as before; after `NotWritten` it is writing a file that has a front of the bytes. It takes no memory.
+pub fn write_file<F: Folder>(files: &mut F, name: &Text, bytes: &[u8]) -> Result<(), WriteFile>
+    ensures written { WritesFile (F.files files.old) (F.files files.new) name.now bytes.now result }
+    ensures activity { LeavesWriting (F.files files.old) name.now (F.activity files.old) (F.activity files.new) result }
+    ensures cause { Counts (F.write_faults files.old) (F.write_faults files.new) result }
+    ensures read_faults { F.read_faults files.new ≡ F.read_faults files.old }
+{
+    let Ok(()) = files.create(name) else {
+        return Err(WriteFile::NotCreated);
+    };
+    let mut written = 0;
+    while written < bytes.len() {
+        let Ok(went) = files.write(&bytes[written..]) else {
+            return Err(WriteFile::NotWritten);
+        };
+        written += went;
     }
     Ok(())
 }

@@ -1,6 +1,6 @@
 use Rattle.std.proofs.Common.{◌+◌, add-one, arith}
 use Rattle.umem_base.proofs.CutLemmas.{cut_none, cut_at, joined_at}
-use Rattle.umem_base.proofs.MemSourceLemmas.{slice_rest}
+use Rattle.umem_base.proofs.Lists.{slice_rest}
 use Rattle.umem_base.proofs.cut.split_once.Goals as goal
 
 pub returns-then-byte-separator-clause-parts : goal.returns-then-byte-separator-clause-parts

@@ -4,7 +4,7 @@ use Rattle.umem_base.specs.Folder.{Activity, ReadsOn}
 use Rattle.umem_base.specs.Files.{activity_in}
 use Rattle.umem_base.specs.declared.memory.open.Open.TheVariants as open_file
 use Rattle.umem_base.specs.MemFolder.{MemFolder, activity_after_read}
-use Rattle.umem_base.proofs.MemSourceLemmas.{slice_rest}
+use Rattle.umem_base.proofs.Lists.{slice_rest}
 use Rattle.umem_base.proofs.FilesLemmas.{moved, read_onward}
 use Rattle.umem_base.proofs.memory.folder.MemFolderFolder.read.Goals as goal
 

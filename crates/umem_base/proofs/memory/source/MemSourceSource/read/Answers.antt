@@ -1,6 +1,7 @@
 use Rattle.std.proofs.Common.{sym, ap, ◌∙◌}
 use Rattle.umem_base.specs.MemSource.{MemSource}
-use Rattle.umem_base.proofs.MemSourceLemmas.{slice_rest, moves, moves_none}
+use Rattle.umem_base.proofs.Lists.{slice_rest}
+use Rattle.umem_base.proofs.MemSourceLemmas.{moves, moves_none}
 use Rattle.umem_base.proofs.memory.source.MemSourceSource.read.Goals as goal
 
 pub returns-clause-moved : goal.returns-clause-moved
