@@ -11,6 +11,9 @@ use Rattle.std.proofs.lemmas.List.Sums.{sum_by-cons, sum_by_push}
 use Rattle.std.proofs.lemmas.Slice.Eq.{bytes_eq-Decides}
 use Rattle.umem_base.specs.Cut.{onto_first}
 use Rattle.umem_base.specs.Numbers.{is_decimal}
+use Rattle.umem_base.specs.Lines.{lines_of, onto_word, is_blank, words_of}
+use Rattle.umem_base.proofs.LinesLemmas.{blank_from_not}
+use Rattle.umem_base.proofs.Lists.{position-None}
 use Rattle.case_table.specs.CacheName.{is_cache_name, is_reserved_name}
 use Rattle.case_table.specs.declared.cache_def.CacheDef.{CacheDef}
 use Rattle.case_table.specs.declared.limits.TheConstants.{MOST_CACHE_BYTES, MOST_CPUS, MOST_DECLARED, MOST_THREADS}
@@ -25,13 +28,11 @@ use Rattle.script.specs.declared.tree.Script.{Script}
 use Rattle.script.specs.Fields.{declared_number, is_alignment, number_in, alignment_fault, constructor_fault, decimal_fault, name_fault, thread_fault}
 use Rattle.script.specs.Grammar.{Reads, skipped, header_line, second_header, cache_line, phase_line, step_line, no_line, are_arguments, arguments, cache_of, call_fields, call_of, first_bad, form_of, has_count, later_form, no_plan, or_later, plan_in, plan_unless, reason_of, said_by, script_in, script_of, step_form, turn_in}
 use Rattle.script.specs.Limits.{most_calls}
-use Rattle.script.specs.Lines.{is_comment, is_line_byte, lines_of, onto_word, is_blank, words_of}
+use Rattle.script.specs.Lines.{is_comment, is_line_byte}
 use Rattle.script.specs.OpWords.{op_named}
 use Rattle.script.specs.Plan.{Turn, Plan, call_count, plan_of}
 use Rattle.script.specs.Reading.{form_fault, least, least_of, line_fault, onto_last, or_else, turn_by, with_cache, with_line, with_phase, with_turn}
 use Rattle.script.specs.Rules.{IsDeclarable, IsPlan, IsTurn}
-use Rattle.script.proofs.LineLemmas.{blank_from_not}
-use Rattle.script.proofs.ListLemmas.{position-None}
 use Rattle.script.proofs.ReasonLemmas.{reason_behind-line_fault}
 use Rattle.script.proofs.RuleLemmas.{AreWords, constructor_rule, decimal_within, frames_rule, least_none, number_none, op_rule, stack_none, unless_none}
 use Rattle.script.proofs.SaidLemmas.{said_by-next}

@@ -4,8 +4,6 @@ mod FieldTexts
 mod FieldsLemmas
 mod GivesLemmas
 mod KeptLemmas
-mod LineLemmas
-mod ListLemmas
 mod MadeLemmas
 mod PhaseLemmas
 mod PlanReads

@@ -7,6 +7,7 @@ use Rattle.std.proofs.lemmas.Bool.{le-ltb, lt-leb, ne_eqb}
 use Rattle.std.proofs.lemmas.List.{append-nil}
 use Rattle.std.proofs.lemmas.List.Concat.{flat_map-append}
 use Rattle.std.proofs.lemmas.List.Sums.{sum_by-append, sum_by-cons}
+use Rattle.umem_base.specs.Lines.{lines_of, words_of}
 use Rattle.case_table.specs.declared.cache_def.CacheDef.{CacheDef}
 use Rattle.script.specs.declared.limits.TheConstants.{MOST_BYTES}
 use Rattle.script.specs.declared.operation.Op.{Op}
@@ -16,7 +17,7 @@ use Rattle.script.specs.declared.reasons.Reason.TheVariants as reasons
 use Rattle.script.specs.declared.tree.Header.{Header}
 use Rattle.script.specs.Grammar.{Form, all_reasons, applies, cache_line, cache_of, cut_phases, declared_in, fields_of, first_bad, form_of, has_count, has_fault, header_line, is_cache_line, is_header, is_misplaced, is_no_line, is_phase_line, is_too_many, lacks_header, no_plan, onto_phase, or_later, phase_line, plan_unless, reason_behind, reason_of, said_by, said_in, script_in, script_of, step_line, turn_in}
 use Rattle.script.specs.Limits.{most_calls}
-use Rattle.script.specs.Lines.{is_kept, kept_lines, lines_of, words_of}
+use Rattle.script.specs.Lines.{is_kept, kept_lines}
 use Rattle.script.specs.Plan.{Plan, Turn}
 use Rattle.script.specs.PlanText.{HasAllCaches, HasCache, HasCaches, cache_words, header_words, phase_lines, plan_lines, spaced, text_of, turn_words}
 use Rattle.script.specs.Rules.{IsDeclarable, IsHeader, IsOp, IsPlan, IsTurn}

@@ -2,6 +2,7 @@
 use Rattle.std.proofs.Common.{◌≡◌, ℕ, zero, suc, ◌+◌, ◌<◌, ◌≤◌, add-one, List, [], ◌∷◌, ◌++◌, length, take, drop, Option, Some, None, Result, Ok, Err, refl, sym, ap, subst, ◌∙◌, arith, length-append}
 use Rattle.std.specs.Option.{ok_or}
 use Rattle.std.proofs.lemmas.Bool.{le-ltb}
+use Rattle.umem_base.specs.Lines.{lines_of}
 use Rattle.script.specs.declared.fault.ScriptFault.{ScriptFault}
 use Rattle.script.specs.declared.fault.ScriptFault.TheVariants as faults
 use Rattle.script.specs.declared.limits.TheConstants.{MOST_BYTES}
@@ -11,7 +12,6 @@ use Rattle.script.specs.declared.tree.Script.{Script}
 use Rattle.script.specs.declared.reasons.Reason.{Reason}
 use Rattle.script.specs.declared.reasons.Reason.TheVariants.{Header}
 use Rattle.script.specs.Grammar.{Reads, script_of, first_bad, or_later, plan_unless, said_by, script_in}
-use Rattle.script.specs.Lines.{lines_of}
 use Rattle.script.specs.Plan.{Plan}
 use Rattle.script.specs.Reading.{Gives, IsScriptOf, at_line, line_fault, with_next}
 use Rattle.script.proofs.ReasonLemmas.{reason_behind-line_fault}

@@ -3,12 +3,13 @@ use Rattle.std.proofs.Common.{◌≡◌, ℕ, Bool, true, false, cond, List, [],
 use Rattle.std.specs.Prelude.{not, ◌||◌, is_ok, unwrap_or}
 use Rattle.std.specs.List.{list_all}
 use Rattle.hex.specs.Hex.{decode_sized}
+use Rattle.umem_base.specs.Lines.{words_of}
 use Rattle.script.specs.declared.reasons.Reason.{Reason}
 use Rattle.script.specs.declared.reasons.Reason.TheVariants as reasons
 use Rattle.script.specs.declared.tree.Header.{Header}
 use Rattle.script.specs.Fields.{Kind, thread, slot, cache, decimal_in, alignment, stored, constructor_byte, frames, new_name, fault_of, number_fault, unless_holds}
 use Rattle.script.specs.Grammar.{fields_of, form_of, has_count, has_fault, is_no_line, is_refused_for, lacks_header, no_plan, reason_behind}
-use Rattle.script.specs.Lines.{is_line_byte, words_of}
+use Rattle.script.specs.Lines.{is_line_byte}
 use Rattle.script.specs.Plan.{Plan}
 use Rattle.script.specs.Reading.{least, least_of, line_fault, or_else, standing_fault}
 

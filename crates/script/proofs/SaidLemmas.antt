@@ -8,12 +8,13 @@ use Rattle.std.proofs.lemmas.Bool.{eqb-false, ltb-false}
 use Rattle.std.proofs.lemmas.List.{map-append, append-nil}
 use Rattle.std.proofs.lemmas.List.Elements.{filter-append}
 use Rattle.umem_base.specs.Numbers.{is_decimal}
+use Rattle.umem_base.specs.Lines.{words_of}
 use Rattle.case_table.specs.declared.cache_def.CacheDef.{CacheDef}
 use Rattle.script.specs.declared.operation.OpName.{OpName}
 use Rattle.script.specs.declared.reasons.Reason.{Reason}
 use Rattle.script.specs.declared.reasons.Reason.TheVariants as reasons
 use Rattle.script.specs.Grammar.{fields_of, has_count, is_too_many, no_plan, nth_word, skipped, header_line, second_header, cache_line, phase_line, step_line, no_line, cache_of, cut_phases, declared_in, form_of, later_form, step_form, is_cache_line, is_phase_line, onto_phase, plan_in, said_in, said_by, turn_in}
-use Rattle.script.specs.Lines.{is_line_byte, is_comment, is_kept, kept_lines, words_of}
+use Rattle.script.specs.Lines.{is_line_byte, is_comment, is_kept, kept_lines}
 use Rattle.script.specs.Plan.{Turn, Plan}
 use Rattle.script.specs.Fields.{number_in}
 use Rattle.script.specs.OpWords.{op_named}

@@ -4,7 +4,8 @@ use Rattle.std.specs.List.{AllByRecursion, flat_map, join_with_byte, list_all}
 use Rattle.std.proofs.lemmas.Bool.{and_from}
 use Rattle.std.proofs.lemmas.Bool.Decides.{nat_tests}
 use Rattle.umem_base.specs.Cut.{onto_first, cut}
-use Rattle.script.specs.Lines.{is_blank, is_line_byte, lines_of, words_of, onto_word}
+use Rattle.umem_base.specs.Lines.{is_blank, lines_of, words_of, onto_word}
+use Rattle.script.specs.Lines.{is_line_byte}
 use Rattle.script.specs.PlanText.{line_text, spaced}
 
 -- a byte that stands in a line and is no blank

@@ -4,6 +4,7 @@ use Rattle.std.specs.List.{list_all, list_any, zip}
 use Rattle.std.specs.Option.{option_map_or, ok_or}
 use Rattle.std.specs.Str.{bytes_eq}
 use Rattle.umem_base.specs.Numbers.{is_decimal}
+use Rattle.umem_base.specs.Lines.{lines_of, words_of}
 use Rattle.case_table.specs.declared.cache_def.CacheDef.{CacheDef}
 use Rattle.case_table.specs.declared.limits.TheConstants.{MOST_CACHE_BYTES, MOST_CPUS, MOST_DECLARED, MOST_THREADS}
 use Rattle.script.specs.declared.fault.ScriptFault.{ScriptFault}
@@ -19,7 +20,7 @@ use Rattle.script.specs.declared.tree.Header.{Header}
 use Rattle.script.specs.declared.tree.Script.{Script}
 use Rattle.script.specs.Fields.{Kind, thread, slot, cache, decimal_in, alignment, stored, constructor_byte, frames, new_name, number_in, slot_in, cache_in, paired_bytes, paired_byte, frames_in, fault_of}
 use Rattle.script.specs.Limits.{most_calls}
-use Rattle.script.specs.Lines.{lines_of, words_of, is_line_byte, is_comment, kept_lines}
+use Rattle.script.specs.Lines.{is_line_byte, is_comment, kept_lines}
 use Rattle.script.specs.OpWords.{op_named}
 use Rattle.script.specs.Plan.{Call, Turn, Plan, plan_of, call_count}
 

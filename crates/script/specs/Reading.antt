@@ -5,6 +5,7 @@ use Rattle.std.specs.List.{list_all}
 use Rattle.std.specs.Str.{bytes_eq}
 use Rattle.std.specs.Borrow.{Bor}
 use Rattle.umem_base.specs.BoundedVec.{BoundedVec}
+use Rattle.umem_base.specs.Lines.{words_of}
 use Rattle.script.specs.declared.fault.ScriptFault.{ScriptFault}
 use Rattle.script.specs.declared.fault.ScriptFault.TheVariants as faults
 use Rattle.script.specs.declared.line_fault.LineFault.{LineFault}
@@ -21,7 +22,7 @@ use Rattle.script.specs.declared.tree.Script.{Script}
 use Rattle.script.specs.declared.tree.Step.{Step}
 use Rattle.script.specs.Fields.{Kind, cache_fault, slot, cache, stored, fault_of, number_in, slot_in, cache_in, paired_bytes, thread_fault, decimal_fault, alignment_fault, constructor_fault, name_fault, frames_fault, frame_words, is_frame}
 use Rattle.script.specs.Grammar.{Form, later_form, step_form, is_stack, is_constructor, are_cache_words, size, offset, constructor_in, nth_word, is_header, header_line, cache_line, phase_line, step_line, arguments, are_arguments, call_fields, fields_of, has_count, stack_in, call_of, form_of, no_plan, lacks_header, is_no_line, is_misplaced, is_too_many, cache_of, turn_in, plan_in, rank_of}
-use Rattle.script.specs.Lines.{is_line_byte, words_of}
+use Rattle.script.specs.Lines.{is_line_byte}
 use Rattle.script.specs.OpWords.{op_word}
 use Rattle.script.specs.Plan.{Call, Turn, Plan, plan_of, turn_of, turns_of}
 
@@ -253,11 +254,6 @@ IsScriptOf (Err (faults.Bad line reason)) plan = ⊥
 IsScriptOf (Err faults.NoMemory) plan = ⊤
 
 -- ---- answers
-
--- a line without a word, or its first word and what stands behind it
-abbrev pub SplitsWord : Option (Bor (List ℕ) × Bor (List ℕ)) → List ℕ → Type 0
-SplitsWord None line = words_of line ≡ []
-SplitsWord (Some parts) line = words_of line ≡ parts.0.now ∷ words_of parts.1.now
 
 -- words that are no stack, or the word of the frames
 abbrev pub SplitsStack : Option (Option (Bor (List ℕ))) → List (List ℕ) → Type 0

@@ -1,12 +1,11 @@
 ghost use Rattle.script.specs.Grammar.{stack_in};
-ghost use Rattle.script.specs.Lines.{words_of};
+ghost use Rattle.umem_base.specs.Lines.{words_of};
 ghost use Rattle.script.specs.Reading.{Gives, SplitsOne, SplitsStack, SplitsThree, SplitsTwo, frames_of, stack_fault, told_stack};
 
 use crate::fields::read_frames;
 use crate::line_fault::LineFault;
-use crate::words::split_word;
 use std::alloc::Global;
-use umem_base::Stack;
+use umem_base::{Stack, split_word};
 
 /// The word of the frames, if there is one, where nothing but a stack stands.
 pub(crate) fn split_stack(line: &[u8]) -> Option<Option<&[u8]>>

@@ -1,5 +1,5 @@
 ghost use Rattle.script.specs.declared.tree.Header.{Header};
-ghost use Rattle.script.specs.Lines.{words_of};
+ghost use Rattle.umem_base.specs.Lines.{words_of};
 ghost use Rattle.script.specs.Reading.{GivesCache, GivesCached, GivesCall, GivesLinked, GivesLoaded, GivesLoneSlot, GivesSized, GivesSlots, GivesStack, GivesStored};
 
 use crate::arguments::{read_stack, split_one, split_stack, split_three, split_two};

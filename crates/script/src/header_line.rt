@@ -1,5 +1,5 @@
 ghost use Rattle.std.specs.Prelude.{◌≡◌, ◌∷◌};
-ghost use Rattle.script.specs.Lines.{words_of};
+ghost use Rattle.umem_base.specs.Lines.{words_of};
 ghost use Rattle.script.specs.Reading.{GivesHeader, ReadsVersion, SplitsHeader, are_fixed};
 
 use crate::both::both;
@@ -9,9 +9,9 @@ use crate::fields::read_number;
 use crate::line_fault::LineFault;
 use crate::phases::Phases;
 use crate::reasons::Reason;
-use crate::words::split_word;
 use case_table::{MOST_CPUS, MOST_THREADS};
 use std::alloc::Global;
+use umem_base::split_word;
 
 /// Reads the first line that is not skipped, of which the first word and what stands behind it are given.
 pub(crate) fn read_header<'a>(

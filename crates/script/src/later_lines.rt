@@ -2,9 +2,9 @@ ghost use Rattle.std.specs.Prelude.{◌≡◌, IsTrue, None, OnOk};
 ghost use Rattle.std.specs.Char.{is_ascii_digit};
 ghost use Rattle.std.specs.List.{list_all};
 ghost use Rattle.umem_base.specs.Numbers.{is_decimal};
+ghost use Rattle.umem_base.specs.Lines.{words_of};
 ghost use Rattle.script.specs.Fields.{declared_number, name_fault};
 ghost use Rattle.script.specs.Grammar.{constructor_in};
-ghost use Rattle.script.specs.Lines.{words_of};
 ghost use Rattle.script.specs.Reading.{Gives, GivesDef, GivesDefWords, GivesTurn, SplitsCache, SplitsConstructor, TakesCache, TakesCall, TakesLater, TakesPhase, TakesStep, itself, option_fault, option_words};
 
 use crate::both::both;
@@ -16,10 +16,9 @@ use crate::op_named::op_named;
 use crate::operation::OpName;
 use crate::reasons::Reason;
 use crate::tree::Step;
-use crate::words::split_word;
 use case_table::{CacheDef, MOST_CACHE_BYTES, MOST_DECLARED, is_cache_name, is_reserved_name};
 use std::alloc::Global;
-use umem_base::Text;
+use umem_base::{Text, split_word};
 
 const COUNT: LineFault = LineFault::Refused(Reason::Count);
 

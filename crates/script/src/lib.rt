@@ -12,6 +12,7 @@ mod header_line;
 mod later_lines;
 pub mod laws;
 mod limits;
+mod line_bytes;
 mod line_fault;
 mod make;
 mod op_named;
@@ -23,7 +24,6 @@ mod read;
 mod reasons;
 mod text_word;
 mod tree;
-mod words;
 
 pub use fault::ScriptFault;
 pub use limits::{

@@ -9,12 +9,12 @@ use crate::draft::Draft;
 use crate::fault::ScriptFault;
 use crate::header_line::read_header;
 use crate::limits::MOST_BYTES;
+use crate::line_bytes::is_line;
 use crate::line_fault::LineFault;
 use crate::reasons::Reason;
 use crate::tree::{Header, Script};
-use crate::words::{is_line, split_line, split_word};
 use std::alloc::Global;
-use umem_base::{NoMemory, Sequence};
+use umem_base::{NoMemory, Sequence, split_line, split_word};
 
 /// Reads a script of either version. `Bad` comes exactly where the bytes spell none, with the first bad line
 /// and the first reason that applies to it. A file that is too long is line 0, `Limit`, before its content

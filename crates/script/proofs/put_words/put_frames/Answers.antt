@@ -1,11 +1,11 @@
 use Rattle.std.proofs.lemmas.Result.{on_ok_weaker}
-use Rattle.script.proofs.ListLemmas.{take-drop-rest}
+use Rattle.umem_base.proofs.Lists.{slice_rest}
 use Rattle.script.proofs.PutLemmas.{frames_put, front_put, front_then}
 use Rattle.script.proofs.put_words.put_frames.Goals as goal
 
 pub returns-in_ok-put_hex-in-len1-up-clause-ok : goal.returns-in_ok-put_hex-in-len1-up-clause-ok
 returns-in_ok-put_hex-in-len1-up-clause-ok c =
-    let rest = rw (take-drop-rest c.args.frames.now 1) at c.put_frames_behind.ensures.ok in
+    let rest = rw (slice_rest c.args.frames.now 1) at c.put_frames_behind.ensures.ok in
     on_ok_weaker c.put_frames_behind.result (λ put. frames_put c.args.out.now c.put_hex.new.out c.put_frames_behind.new.out c.args.frames.now c.in-len1-up.len_at_least c.in_ok-put_hex-in-len1-up.ensures.ok put) rest
 
 pub returns-in_ok-put_hex-in-len1-up-clause-front : goal.returns-in_ok-put_hex-in-len1-up-clause-front

@@ -1,5 +1,5 @@
 use Rattle.std.proofs.Common.{sym}
-use Rattle.script.specs.Lines.{words_of}
+use Rattle.umem_base.specs.Lines.{words_of}
 use Rattle.script.proofs.GivesLemmas.{Gives-step}
 use Rattle.script.proofs.draft.Draft.take_step.Goals as goal
 
