@@ -4,7 +4,7 @@ use umem_base::{Sequence, Text};
 /// kinds are those that the transaction log of umem_debug(3MALLOC) tells apart.
 #[derive(Clone, Debug, Drop, PartialEq, Eq)]
 pub struct Trans {
-    /// 1 for an allocation, 2 for a free.
+    /// `ALLOCATION` or `FREE`.
     pub kind: u32,
     pub cpu: u32,
     pub thread: u32,
