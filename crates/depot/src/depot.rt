@@ -11,7 +11,7 @@ use std::marker::Model;
 use umem_base::{BoundedVec, NoMemory};
 
 /// How many magazines a depot has.
-const MAGAZINES: u32 = 8;
+pub const MAGAZINES: u32 = 8;
 
 /// Where the CPUs of a cache trade an empty magazine for a full one and the other way round (Bonwick and Adams
 /// 2001). Contracts see the size of the magazines and the rounds of each full one, in the order in which they

@@ -4,7 +4,7 @@
 mod depot;
 pub mod laws;
 
-pub use depot::Depot;
+pub use depot::{Depot, MAGAZINES};
 
 #[cfg(test)]
 mod tests;
