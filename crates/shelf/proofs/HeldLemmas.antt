@@ -17,8 +17,9 @@ use Rattle.slab_layer.specs.Slab.{HasChunk, IsSlab, Slab, has_chunk, with_chunk,
 use Rattle.slab_layer.specs.Slabs.{AreSlabs, IsMissing, listed_rounds, with_round, without_round}
 use Rattle.slab_layer.proofs.RoundsLemmas.{All-from_rises, left_out_by-first}
 use Rattle.slab_layer.proofs.SlabsLemmas.{IsPut-missing, rounds_rise}
+use Rattle.depot.specs.declared.depot.TheConstants.{MAGAZINES}
 use Rattle.shelf.specs.Steps.{InHand, IsBare, Reach, exchanged, from_behind, from_loaded, from_slabs, lowest_of, newest_of, put_behind, put_in, pushed, taken_in, traded_empty, traded_full, with_full}
-use Rattle.shelf.specs.Stock.{FitsCpu, bare_slab, depot_magazines, rounds_of_cpu, standing}
+use Rattle.shelf.specs.Stock.{FitsCpu, bare_slab, rounds_of_cpu, standing}
 use Rattle.shelf.proofs.Lists.{AllPairs-map, IfSome-in_whole, IfSome-mapped, IfSome-or, exchange, none_in_whole, none_mapped, none_of_both}
 use Rattle.shelf.proofs.StepsLemmas.{from_loaded-empty, lowest_is_first, traded_full-none}
 
@@ -43,7 +44,7 @@ reach_rounds reach = (rounds_of_cpu reach.cpu ++ flat_map (λ rounds. rounds) re
 -- magazines have no more rounds than fit, and the slabs are sound
 pub record IsReach (size : ℕ) (reach : Reach) : Type 0 where
   pub cpu : FitsCpu size reach.cpu
-  pub few : length reach.depot ≤ depot_magazines
+  pub few : length reach.depot ≤ MAGAZINES
   pub filled : All (λ rounds. length rounds ≡ size) reach.depot
   pub slabs : AreSlabs reach.slabs
 
@@ -314,7 +315,7 @@ full_to_depot : (loaded previous depot listed : List ℕ) → IsPermutation (((l
 full_to_depot loaded previous depot listed =
     IsPermutation-append_left listed _ _ (rw append_assoc (IsPermutation-append_right loaded _ _ (IsPermutation-append_comm previous depot)))
 
-traded_empty_is : (size : ℕ) (reach : Reach) → IsReach size reach → length reach.cpu.previous ≡ size → length reach.depot < depot_magazines → IsMoved size reach (traded_empty reach)
+traded_empty_is : (size : ℕ) (reach : Reach) → IsReach size reach → length reach.cpu.previous ≡ size → length reach.depot < MAGAZINES → IsMoved size reach (traded_empty reach)
 traded_empty_is size reach h full lt = record {
   holds =
       rw (flat_map-append (λ (rounds : List ℕ). rounds) reach.depot (reach.cpu.previous ∷ []), append-nil reach.cpu.previous)
@@ -347,12 +348,12 @@ listed_is size reach chunk h missing =
     }
 
 put_behind_is : (size : ℕ) (reach : Reach) (chunk : ℕ) → 1 ≤ size → IsReach size reach → length reach.cpu.previous ≡ size → IsMissing reach.slabs chunk → IsMore size reach chunk (put_behind reach chunk)
-put_behind_is size reach chunk some h full missing = elim (cases_lt (length reach.depot) depot_magazines) [
+put_behind_is size reach chunk some h full missing = elim (cases_lt (length reach.depot) MAGAZINES) [
   | inl less ↦
       let moved = traded_empty_is size reach h full less in
-      rw (lt-ltb (length reach.depot) depot_magazines less)
+      rw (lt-ltb (length reach.depot) MAGAZINES less)
       (IsMore-moved size reach (traded_empty reach) chunk (pushed (traded_empty reach) chunk) moved (pushed_is size (traded_empty reach) chunk moved.sound (omega arith)))
-  | inr more ↦ rw (le-ltb (length reach.depot) depot_magazines more) (listed_is size reach chunk h missing)
+  | inr more ↦ rw (le-ltb (length reach.depot) MAGAZINES more) (listed_is size reach chunk h missing)
 ]
 
 pub put_in_is : (size : ℕ) (reach : Reach) (chunk : ℕ) → 1 ≤ size → IsReach size reach → IsMissing reach.slabs chunk → IsMore size reach chunk (put_in size reach chunk)

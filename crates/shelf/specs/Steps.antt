@@ -5,7 +5,8 @@ use Rattle.std.specs.Option.{option_map, option_map_or, option_or}
 use Rattle.umem_base.specs.Ordered.{split_newest}
 use Rattle.slab_layer.specs.Slab.{Slab, is_complete, slab_of}
 use Rattle.slab_layer.specs.Slabs.{listed_rounds, with_round, without_complete, without_round}
-use Rattle.shelf.specs.Stock.{CpuStock, Stock, depot_magazines, empty_cpu, has_round}
+use Rattle.depot.specs.declared.depot.TheConstants.{MAGAZINES}
+use Rattle.shelf.specs.Stock.{CpuStock, Stock, empty_cpu, has_round}
 
 -- a round that was taken from somewhere, and what is left there
 pub record InHand (A : Type 0) : Type 0 where
@@ -98,7 +99,7 @@ traded_empty reach = record reach {
 -- where the CPU has no room: into an empty magazine of the depot, else into the list of its slab
 abbrev pub put_behind : Reach → ℕ → Reach
 put_behind reach chunk =
-    if nat_lt (length reach.depot) depot_magazines then pushed (traded_empty reach) chunk
+    if nat_lt (length reach.depot) MAGAZINES then pushed (traded_empty reach) chunk
     else record reach { slabs = with_round reach.slabs chunk }
 
 -- a free, with magazines of that size: into the loaded magazine, else into the previous one, exchanged, else behind the

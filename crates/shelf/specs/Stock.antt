@@ -3,10 +3,7 @@ use Rattle.std.specs.Prelude.{◌≡◌, ◌≢◌, ℕ, ◌≤◌, Bool, List, 
 use Rattle.std.specs.List.{flat_map, list_any}
 use Rattle.slab_layer.specs.Slab.{HasChunk, Slab}
 use Rattle.slab_layer.specs.Slabs.{AreSlabs, listed_rounds}
-
--- how many magazines a depot has
-abbrev pub depot_magazines : ℕ
-depot_magazines = 8
+use Rattle.depot.specs.declared.depot.TheConstants.{MAGAZINES}
 
 -- the rounds in the two magazines of a CPU, oldest first
 pub record CpuStock : Type 0 where
@@ -79,7 +76,7 @@ pub record FitsCpu (size : ℕ) (cpu : CpuStock) : Type 0 where
 pub record IsStock (stock : Stock) : Type 0 where
   pub some : 1 ≤ stock.size
   pub cpus : All (FitsCpu stock.size) stock.cpus
-  pub few : length stock.depot ≤ depot_magazines
+  pub few : length stock.depot ≤ MAGAZINES
   pub filled : All (λ rounds. length rounds ≡ stock.size) stock.depot
   pub slabs : AreSlabs stock.slabs
   pub distinct : AllPairs (λ one other. one ≢ other) (held_rounds stock)
