@@ -2,6 +2,7 @@
 use Rattle.std.specs.Prelude.{ℕ, ◌+◌, Bool, ◌&&◌, ◌||◌, ◌==◌, List, [], ◌∷◌, Result, Ok, nat_le, nat_lt, slice_index, if◌then◌else◌}
 use Rattle.std.specs.List.{list_any}
 use Rattle.std.specs.Option.{option_map}
+use Rattle.trans_log.specs.declared.kinds.TheConstants.{ALLOCATION, FREE}
 use Rattle.trans_log.specs.declared.record.Fail.{Fail}
 use Rattle.trans_log.specs.declared.record.Trans.{Trans}
 use Rattle.core_format.specs.declared.cache_shape.CacheShape.{CacheShape}
@@ -68,7 +69,7 @@ unfoldable pub trans_item_at : Header → List Trans → Reader → Result (Tran
 trans_item_at h before here = do
   fields ← record_at trans_widths here
   let v = fields.0
-  _ ← rule (slice_index v 0 == 1 || slice_index v 0 == 2) here.at BadLog
+  _ ← rule (slice_index v 0 == ALLOCATION || slice_index v 0 == FREE) here.at BadLog
   _ ← rule (nat_lt (slice_index v 1) h.cpus) (here.at + 4) BadLog
   _ ← rule (nat_lt (slice_index v 2) MOST_THREADS) (here.at + 8) BadLog
   _ ← rule (nat_lt (slice_index v 3) h.next_chunk) (here.at + 12) BadLog

@@ -1,5 +1,6 @@
 ghost use Rattle.std.specs.Prelude.{◌≡◌, ◌&&◌, ◌||◌, ◌==◌, ◌*◌, ◌+◌, [], nat_le};
 ghost use Rattle.std.specs.Option.{option_map};
+ghost use Rattle.trans_log.specs.declared.kinds.TheConstants.{ALLOCATION, FREE};
 ghost use Rattle.core_format.specs.Items.{items_at, last_of_list};
 ghost use Rattle.core_format.specs.Logs.{audit_item_at, audit_widths, fail_item_at, fail_widths, is_in_arena, kept_bytes, saved_item_at, saved_widths, trans_item_at, trans_widths};
 ghost use Rattle.core_format.specs.Sections.{ReadsItem, audit_in, audits_in, fails_in, saved_in, trans_in};
@@ -16,7 +17,7 @@ use crate::reader::{Reader, rule};
 use crate::slab_table::SlabTable;
 use case_table::{Layout, MOST_CACHE_BYTES, MOST_THREADS, take_fields};
 use std::alloc::Global;
-use trans_log::{Fail, Saved, Trans};
+use trans_log::{ALLOCATION, FREE, Fail, Saved, Trans};
 use umem_base::{ARENA_BASE, Sequence, Text};
 use umem_options::{DEFAULT_CONTENTS, DebugFlags};
 
@@ -93,9 +94,9 @@ fn is_in_arena(version: u32, address: u64) -> bool
 }
 
 fn is_kind(kind: u64) -> bool
-    ensures { result ≡ (kind == 1 || kind == 2) }
+    ensures { result ≡ (kind == ALLOCATION || kind == FREE) }
 {
-    kind == 1 || kind == 2
+    kind == u64::from(ALLOCATION) || kind == u64::from(FREE)
 }
 
 fn last_trans(trans: &[Trans]) -> Option<u64>
