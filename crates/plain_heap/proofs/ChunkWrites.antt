@@ -45,6 +45,7 @@ use Rattle.plain_heap.proofs.PairsLemmas.{pair_of}
 use Rattle.plain_heap.proofs.PlacesLemmas.{AreInPlace, IsInArena, chunk_in_slab, chunks_apart, is_cache_of}
 use Rattle.plain_heap.proofs.RunsLemmas.{new_run}
 use Rattle.plain_heap.proofs.SeparateLemmas.{history_in_place}
+use Rattle.plain_heap.proofs.SlabOfChunk.{begun, find_found, one_slab}
 use Rattle.plain_heap.proofs.SettingLemmas.{cache_has_shape, def_of-class, geometry_in-sound}
 
 -- ---- writes beside an address
@@ -75,34 +76,6 @@ slot_below header thread slot is below there = either (ltb slot 512)
     either : (b : Bool) → cond b (SHARED_ROOT + 8 * slot) (own_root thread + 8 * (slot - 512)) + 8 ≤ ARENA_BASE
     either true = omega (arith, slot_small header slot there)
     either false = omega (arith, slot_small header slot there, is.threads)
-
--- ---- the slab of a chunk
-
-find_found : {X : Type 0} (p : X → Bool) (xs : List X) (x : X) → find p xs ≡ Some x → Contains xs x × (p x ≡ true)
-find_found p [] x h = absurd (cc h)
-find_found {X} p (first ∷ xs) x h = go (p first) refl h (find_found p xs x)
-  where
-    go : (b : Bool) → p first ≡ b → cond b (Some first) (find p xs) ≡ Some x → (find p xs ≡ Some x → Contains xs x × (p x ≡ true)) → Contains (first ∷ xs) x × (p x ≡ true)
-    go true is same later = let e : first ≡ x = cc in (subst (λ (y : X). Contains (first ∷ xs) y) e (Contains-here first xs), subst (λ (y : X). p y ≡ true) e is)
-    go false is same later = let there = later same in (Contains-there first x xs there.0, there.1)
-
--- an address at which a chunk begins by its place, is one
-begun : (setting : Setting) (slab : HeapSlab) (address : ℕ) → 8 ≤ (geometry_in setting slab.cache).chunk → begins_chunk setting slab address ≡ true → IsChunkOf setting slab address
-begun setting slab address some h = go (is_within (chunk_start setting slab 0) ((geometry_in setting slab.cache).rounds * (geometry_in setting slab.cache).chunk) address) refl h
-  where
-    go : (b : Bool) → is_within (chunk_start setting slab 0) ((geometry_in setting slab.cache).rounds * (geometry_in setting slab.cache).chunk) address ≡ b
-        → option_map_or (λ index. eqb (chunk_start setting slab index) address) (cond b (Some ((address - chunk_start setting slab 0) / (geometry_in setting slab.cache).chunk)) None) false ≡ true
-        → IsChunkOf setting slab address
-    go true is there =
-        let g = geometry_in setting slab.cache in
-        let first = chunk_start setting slab 0 in
-        let both = and_parts _ _ is in
-        let low = leb-true first address both.0 in
-        let high = ltb-true address (first + g.rounds * g.chunk) both.1 in
-        let behind : address - first < g.rounds * g.chunk = omega arith in
-        let positive : 0 < g.chunk = omega arith in
-        record { index = (address - first) / g.chunk; within = (div-lt_iff_lt-mul positive).1 behind; there = sym (eqb-true _ _ there) }
-    go false is there = absurd (false≢true there)
 
 -- ---- what is written to a chunk fits it
 
@@ -181,23 +154,6 @@ handed_fits setting cache number size zeroed header is served = go setting.guard
 -- ---- one chunk and what is written beside it
 
 module _ (setting : Setting) (state : State) (header : IsHeader setting.header) (places : AreInPlace setting state.live state.slabs) where
-  -- the slab of a chunk is one
-  one_slab : (f t : HeapSlab) (x : ℕ) → Contains state.slabs f → Contains state.slabs t → IsChunkOf setting f x → IsChunkOf setting t x → f ≡ t
-  one_slab f t x f_stands t_stands one other =
-      let f_is = is_cache_of setting state.live state.slabs header places f f_stands in
-      let t_is = is_cache_of setting state.live state.slabs header places t t_stands in
-      let low = chunk_in_slab setting f x header f_is one in
-      let high = chunk_in_slab setting t x header t_is other in
-      let some = (geometry_in-sound setting f.cache header f_is).chunk_some in
-      let more = (geometry_in-sound setting t.cache header t_is).chunk_some in
-      elim (pair_of (λ (a b : HeapSlab). StandApart (span_of_slab setting a) (span_of_slab setting b)) state.slabs f t places.slabs_apart f_stands t_stands) [
-        | inl same ↦ same
-        | inr apart ↦ elim apart [
-          | inl before ↦ elim before [ inl below ↦ absurd (omega (arith, below, low, high, some, more)) | inr above ↦ absurd (omega (arith, above, low, high, some, more)) ]
-          | inr behind ↦ elim behind [ inl below ↦ absurd (omega (arith, below, low, high, some, more)) | inr above ↦ absurd (omega (arith, above, low, high, some, more)) ]
-        ]
-      ]
-
   module _ (cache at k : ℕ) (chunk : IsChunkOfCache setting state cache at) (inside : k < (geometry_in setting cache).chunk) where
     is_of : IsCache setting.header.caches chunk.slab.cache
     is_of = is_cache_of setting state.live state.slabs header places chunk.slab chunk.stands
@@ -256,7 +212,7 @@ module _ (setting : Setting) (state : State) (header : IsHeader setting.header) 
         go (Some f) is =
             let found = find_found (λ (s : HeapSlab). begins_chunk setting s x) state.slabs f is in
             let some = (geometry_in-sound setting f.cache header (is_cache_of setting state.live state.slabs header places f found.0)).chunk_some in
-            let begins = begun setting f x some found.1 in
+            let begins = begun setting f x (omega (arith, some)) found.1 in
             let short = fits f found.0 begins in
             stored_beside state.bytes x (written f.cache (chunk_number setting f x)) (at + k) (λ over. chunk_beside f x found.0 begins differ (over.0, omega (arith, over.1, short)))
 
@@ -277,7 +233,7 @@ module _ (setting : Setting) (state : State) (header : IsHeader setting.header) 
     choice_beside x class size zeroed choice served differ =
         written_beside x (λ c number. handed_chunk setting c number size zeroed) differ
         (λ f stands begins.
-        let same = one_slab f choice.chunk.slab x stands choice.chunk.stands begins choice.chunk.chunk in
+        let same = one_slab setting state header places f choice.chunk.slab x stands choice.chunk.stands begins choice.chunk.chunk in
         let its : class ≡ f.cache = sym choice.chunk.its ∙ ap (λ (s : HeapSlab). s.cache) (sym same) in
         let f_is = is_cache_of setting state.live state.slabs header places f stands in
         handed_fits setting f.cache (chunk_number setting f x) size zeroed header f_is (subst (λ c. IsServed setting c size) its served))

@@ -3,6 +3,7 @@ pub mod CutLemmas
 pub mod CacheTexts
 pub mod ReplyTexts
 pub mod FreedLemmas
+pub mod SlabOfChunk
 pub mod ChunkWrites
 pub mod TranscriptLemmas
 pub mod HistoryLemmas

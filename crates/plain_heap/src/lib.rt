@@ -9,6 +9,7 @@ pub mod laws;
 mod live;
 pub mod live_laws;
 mod reply;
+mod reports;
 mod text;
 
 pub use entry::{Body, Entry};
@@ -16,4 +17,5 @@ pub use held::Held;
 pub use history::History;
 pub use live::Live;
 pub use reply::{Reply, Report};
+pub use reports::report_of;
 pub use text::transcript;
