@@ -31,6 +31,7 @@ use Rattle.plain_heap.proofs.PairsLemmas.{AllPairs-append, AllPairs-map, pair_of
 use Rattle.plain_heap.proofs.PlacesLemmas.{AreInPlace, chunk_in_slab, is_cache_of}
 use Rattle.plain_heap.proofs.SeparateLemmas.{history_in_place}
 use Rattle.plain_heap.proofs.SettingLemmas.{geometry_in-sound}
+use Rattle.plain_heap.proofs.SlabOfChunk.{begins, begun, chunk_some, find_found, one_slab}
 use Rattle.heap_logs.specs.declared.chunk_range.ChunkRange.{ChunkRange}
 use Rattle.heap_logs.specs.Audits.{chunks_of_slab}
 use Rattle.heap_logs.specs.Laws.{ChunksAreFound, FirstBytesStand, IsFound, Rise, StandingChunksRise, StandsBelow}
@@ -158,19 +159,6 @@ index_told setting slab index some lt =
     let within : is_within first (g.rounds * g.chunk) at ≡ true = rw (le-leb first at low, lt-ltb at (first + g.rounds * g.chunk) high) refl in
     (told, ap (λ (b : Bool). cond b (Some ((at - first) / g.chunk)) None) within ∙ ap Some told)
 
-begins : (setting : Setting) (slab : HeapSlab) (index : ℕ) → 0 < (geometry_in setting slab.cache).chunk → index < (geometry_in setting slab.cache).rounds → begins_chunk setting slab (chunk_start setting slab index) ≡ true
-begins setting slab index some lt =
-    let at = chunk_start setting slab index in
-    ap (λ (o : Option ℕ). option_map_or (λ i. eqb (chunk_start setting slab i) at) o false) (index_told setting slab index some lt).1 ∙ eq-eqb at at refl
-
-find_found : {X : Type 0} (p : X → Bool) (xs : List X) (x : X) → find p xs ≡ Some x → Contains xs x × (p x ≡ true)
-find_found p [] x h = absurd (cc h)
-find_found {X} p (first ∷ xs) x h = go (p first) refl h (find_found p xs x)
-  where
-    go : (b : Bool) → p first ≡ b → cond b (Some first) (find p xs) ≡ Some x → (find p xs ≡ Some x → Contains xs x × (p x ≡ true)) → Contains (first ∷ xs) x × (p x ≡ true)
-    go true is same later = let e : first ≡ x = cc in (subst (λ (y : X). Contains (first ∷ xs) y) e (Contains-here first xs), subst (λ (y : X). p y ≡ true) e is)
-    go false is same later = let there = later same in (Contains-there first x xs there.0, there.1)
-
 find_none : {X : Type 0} (p : X → Bool) (xs : List X) (x : X) → find p xs ≡ None → Contains xs x → p x ≡ true → ⊥
 find_none p [] x h there passes = Contains-nil x there
 find_none {X} p (first ∷ xs) x h there passes = go (p first) refl h (find_none p xs x)
@@ -182,56 +170,19 @@ find_none {X} p (first ∷ xs) x h there passes = go (p first) refl h (find_none
       | inr behind ↦ later same behind passes
     ]
 
--- an address at which a chunk begins by its place, is one
-begun : (setting : Setting) (slab : HeapSlab) (address : ℕ) → 0 < (geometry_in setting slab.cache).chunk → begins_chunk setting slab address ≡ true → IsChunkOf setting slab address
-begun setting slab address some h = go (is_within (chunk_start setting slab 0) ((geometry_in setting slab.cache).rounds * (geometry_in setting slab.cache).chunk) address) refl h
-  where
-    go : (b : Bool) → is_within (chunk_start setting slab 0) ((geometry_in setting slab.cache).rounds * (geometry_in setting slab.cache).chunk) address ≡ b
-        → option_map_or (λ index. eqb (chunk_start setting slab index) address) (cond b (Some ((address - chunk_start setting slab 0) / (geometry_in setting slab.cache).chunk)) None) false ≡ true
-        → IsChunkOf setting slab address
-    go true is there =
-        let g = geometry_in setting slab.cache in
-        let first = chunk_start setting slab 0 in
-        let both = and_parts _ _ is in
-        let low = leb-true first address both.0 in
-        let high = ltb-true address (first + g.rounds * g.chunk) both.1 in
-        let behind : address - first < g.rounds * g.chunk = omega arith in
-        record { index = (address - first) / g.chunk; within = (div-lt_iff_lt-mul some).1 behind; there = sym (eqb-true _ _ there) }
-    go false is there = absurd (false≢true there)
-
 module _ (setting : Setting) (state : State) (header : IsHeader setting.header) (places : AreInPlace setting state.live state.slabs) where
-  chunk_some : (slab : HeapSlab) → Contains state.slabs slab → 0 < (geometry_in setting slab.cache).chunk
-  chunk_some slab stands =
-      let some = (geometry_in-sound setting slab.cache header (is_cache_of setting state.live state.slabs header places slab stands)).chunk_some in
-      omega (arith, some)
-
-  -- the slab of a chunk is one
-  one_slab : (f t : HeapSlab) (x : ℕ) → Contains state.slabs f → Contains state.slabs t → IsChunkOf setting f x → IsChunkOf setting t x → f ≡ t
-  one_slab f t x f_stands t_stands one other =
-      let low = chunk_in_slab setting f x header (is_cache_of setting state.live state.slabs header places f f_stands) one in
-      let high = chunk_in_slab setting t x header (is_cache_of setting state.live state.slabs header places t t_stands) other in
-      let some = chunk_some f f_stands in
-      let more = chunk_some t t_stands in
-      elim (pair_of (λ (a b : HeapSlab). StandApart (span_of_slab setting a) (span_of_slab setting b)) state.slabs f t places.slabs_apart f_stands t_stands) [
-        | inl same ↦ same
-        | inr apart ↦ elim apart [
-          | inl before ↦ elim before [ inl below ↦ absurd (omega (arith, below, low, high, some, more)) | inr above ↦ absurd (omega (arith, above, low, high, some, more)) ]
-          | inr behind ↦ elim behind [ inl below ↦ absurd (omega (arith, below, low, high, some, more)) | inr above ↦ absurd (omega (arith, above, low, high, some, more)) ]
-        ]
-      ]
-
   slab_found : (slab : HeapSlab) (index : ℕ) → Contains state.slabs slab → index < (geometry_in setting slab.cache).rounds → slab_with_chunk setting state.slabs (chunk_start setting slab index) ≡ Some slab
   slab_found slab index stands lt = go (slab_with_chunk setting state.slabs (chunk_start setting slab index)) refl
     where
       go : (o : Option HeapSlab) → slab_with_chunk setting state.slabs (chunk_start setting slab index) ≡ o → slab_with_chunk setting state.slabs (chunk_start setting slab index) ≡ Some slab
       go None is =
-          absurd (find_none (λ (s : HeapSlab). begins_chunk setting s (chunk_start setting slab index)) state.slabs slab is stands (begins setting slab index (chunk_some slab stands) lt))
+          absurd (find_none (λ (s : HeapSlab). begins_chunk setting s (chunk_start setting slab index)) state.slabs slab is stands (begins setting slab (chunk_start setting slab index) (chunk_some setting state header places slab stands) (record { index = index; within = lt; there = refl })))
       go (Some f) is =
           let at = chunk_start setting slab index in
           let found = find_found (λ (s : HeapSlab). begins_chunk setting s at) state.slabs f is in
-          let its = begun setting f at (chunk_some f found.0) found.1 in
+          let its = begun setting f at (chunk_some setting state header places f found.0) found.1 in
           let mine : IsChunkOf setting slab at = record { index = index; within = lt; there = refl } in
-          is ∙ ap Some (one_slab f slab at found.0 stands its mine)
+          is ∙ ap Some (one_slab setting state header places f slab at found.0 stands its mine)
 
 pub chunks_found : ChunksAreFound
 chunks_found setting entries slab index header legal stands lt =

@@ -4,6 +4,7 @@ use Rattle.umem_options.specs.declared.options.Logging.{Logging}
 use Rattle.umem_options.specs.declared.options.Options.{Options}
 use Rattle.umem_options.specs.Capacity.{transaction_capacity}
 use Rattle.umem_options.specs.Flags.{has_audit}
+use Rattle.trans_log.specs.declared.kinds.TheConstants.{ALLOCATION, FREE}
 use Rattle.trans_log.specs.declared.record.Trans.{Trans}
 use Rattle.trans_log.specs.Last.{last_of}
 use Rattle.script.specs.declared.operation.Op.{Op}
@@ -13,7 +14,6 @@ use Rattle.plain_heap.specs.declared.entry.Body.TheVariants.{Call, Grow, Shrink}
 use Rattle.plain_heap.specs.declared.entry.Entry.{Entry}
 use Rattle.plain_heap.specs.Setting.{Setting}
 use Rattle.heap_logs.specs.declared.act.Act.{Act}
-use Rattle.heap_logs.specs.declared.kinds.TheConstants.{ALLOCATION, FREE}
 use Rattle.heap_logs.specs.Acts.{acts_of}
 
 -- the operation asks for a buffer

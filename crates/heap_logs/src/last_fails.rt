@@ -86,7 +86,14 @@ fn failed_request(caches: &[CacheDef], number: u32, thread: u32, op: &Op) -> Opt
     let (cache, size) = match op {
         Op::Alloc { size, .. } | Op::Zalloc { size, .. } => (class_of(u64::from(*size))?, *size),
         Op::CacheAlloc { cache, .. } => (*cache, size_of_cache(caches, *cache)),
-        _ => return None,
+        Op::Free { .. }
+        | Op::CacheFree { .. }
+        | Op::Copy { .. }
+        | Op::Clear { .. }
+        | Op::Store { .. }
+        | Op::Link { .. }
+        | Op::Load { .. }
+        | Op::Reap => return None,
     };
     Some(Fail {
         thread,

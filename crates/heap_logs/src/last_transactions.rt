@@ -4,12 +4,11 @@ ghost use Rattle.trans_log.specs.Last.{last_of};
 ghost use Rattle.heap_logs.specs.Transactions.{transaction_kind, transaction_of, transactions_by};
 
 use crate::act::Act;
-use crate::kinds::{ALLOCATION, FREE};
 use crate::push_some::push_some;
 use plain_heap::{Body, Entry};
 use script::Op;
 use std::alloc::Global;
-use trans_log::Trans;
+use trans_log::{ALLOCATION, FREE, Trans};
 use umem_base::{NoMemory, Sequence};
 use umem_options::Options;
 
@@ -122,7 +121,14 @@ fn kind(op: &Op) -> u32
 {
     match op {
         Op::Alloc { .. } | Op::Zalloc { .. } | Op::CacheAlloc { .. } => ALLOCATION,
-        _ => FREE,
+        Op::Free { .. }
+        | Op::CacheFree { .. }
+        | Op::Copy { .. }
+        | Op::Clear { .. }
+        | Op::Store { .. }
+        | Op::Link { .. }
+        | Op::Load { .. }
+        | Op::Reap => FREE,
     }
 }
 

@@ -4,7 +4,6 @@
 
 mod act;
 mod chunk_range;
-mod kinds;
 mod last_audits;
 mod last_fails;
 mod last_transactions;
@@ -14,7 +13,6 @@ mod push_some;
 
 pub use act::Act;
 pub use chunk_range::ChunkRange;
-pub use kinds::{ALLOCATION, FREE};
 pub use last_audits::audits;
 pub use last_fails::fails;
 pub use last_transactions::transactions;

@@ -38,6 +38,7 @@ use Rattle.plain_heap.specs.Setting.{IsCache, Setting, cache_def_in, def_of, geo
 use Rattle.plain_heap.specs.State.{HeapSlab, IsChunkOf, State, begins_chunk, chunk_number, chunk_start, constructed, freed_chunk, give_back, hand_out, handed_chunk, held_at, is_mapped, is_taken, is_in_span, made_chunk, slab_with_chunk, span_of_slab, spans_of, with_bytes_of, with_chunk_at}
 use Rattle.plain_heap.proofs.PairsLemmas.{Contains-seen, pair_of}
 use Rattle.plain_heap.proofs.SettingLemmas.{cache_has_shape, def_of-class, def_of-declared}
+use Rattle.plain_heap.proofs.SlabOfChunk.{begins, begun, find_alone, find_found}
 use Rattle.heap_memory.specs.declared.chunk.Chunk.{Chunk}
 use Rattle.heap_memory.specs.declared.chunk_kind.ChunkKind.{ChunkKind}
 use Rattle.heap_memory.specs.Chunks.{IsChunkAt, IsKind, IsRequested, WritesAt, bytes_of_kind, kind_in, shape_of_kind}
@@ -87,44 +88,6 @@ content_in setting cache = refl
 
 -- ---- the slab of a chunk
 
-find_found : {X : Type 0} (p : X → Bool) (xs : List X) (x : X) → find p xs ≡ Some x → Contains xs x × (p x ≡ true)
-find_found p [] x h = absurd (cc h)
-find_found {X} p (first ∷ xs) x h = go (p first) refl h (find_found p xs x)
-  where
-    go : (b : Bool) → p first ≡ b → cond b (Some first) (find p xs) ≡ Some x → (find p xs ≡ Some x → Contains xs x × (p x ≡ true)) → Contains (first ∷ xs) x × (p x ≡ true)
-    go true is same later = let e : first ≡ x = cc in (subst (λ (y : X). Contains (first ∷ xs) y) e (Contains-here first xs), subst (λ (y : X). p y ≡ true) e is)
-    go false is same later = let there = later same in (Contains-there first x xs there.0, there.1)
-
--- an item that alone passes is found
-find_alone : {X : Type 0} (p : X → Bool) (xs : List X) (x : X) → Contains xs x → p x ≡ true → ((y : X) → Contains xs y → p y ≡ true → y ≡ x) → find p xs ≡ Some x
-find_alone p [] x h is alone = Contains-nil x h
-find_alone {X} p (first ∷ xs) x h is alone = go (p first) refl (λ there. find_alone p xs x there is (λ y later. alone y (Contains-there first y xs later)))
-  where
-    go : (b : Bool) → p first ≡ b → (Contains xs x → find p xs ≡ Some x) → cond b (Some first) (find p xs) ≡ Some x
-    go true passes rest = ap Some (alone first (Contains-here first xs) passes)
-    go false fails rest = elim (Contains-cases first x xs h) [
-      | inl same ↦ absurd (false≢true (sym fails ∙ ap p same ∙ is))
-      | inr there ↦ rest there
-    ]
-
--- an address at which a chunk begins by its place, is one
-begun : (setting : Setting) (slab : HeapSlab) (address : ℕ) → 8 ≤ (geometry_in setting slab.cache).chunk → begins_chunk setting slab address ≡ true → IsChunkOf setting slab address
-begun setting slab address some h = go (is_within (chunk_start setting slab 0) ((geometry_in setting slab.cache).rounds * (geometry_in setting slab.cache).chunk) address) refl h
-  where
-    go : (b : Bool) → is_within (chunk_start setting slab 0) ((geometry_in setting slab.cache).rounds * (geometry_in setting slab.cache).chunk) address ≡ b
-        → option_map_or (λ index. eqb (chunk_start setting slab index) address) (cond b (Some ((address - chunk_start setting slab 0) / (geometry_in setting slab.cache).chunk)) None) false ≡ true
-        → IsChunkOf setting slab address
-    go true is there =
-        let g = geometry_in setting slab.cache in
-        let first = chunk_start setting slab 0 in
-        let both = and_parts _ _ is in
-        let low = leb-true first address both.0 in
-        let high = ltb-true address (first + g.rounds * g.chunk) both.1 in
-        let behind : address - first < g.rounds * g.chunk = omega arith in
-        let positive : 0 < g.chunk = omega arith in
-        record { index = (address - first) / g.chunk; within = (div-lt_iff_lt-mul positive).1 behind; there = sym (eqb-true _ _ there) }
-    go false is there = absurd (false≢true there)
-
 -- the chunks of a slab follow one another
 step : (base colour index chunk : ℕ) → (base + (colour + index * chunk)) - (base + (colour + 0 * chunk)) ≡ index * chunk
 step base colour index chunk = omega arith
@@ -138,20 +101,6 @@ pub index_is : (setting : Setting) (slab : HeapSlab) (index : ℕ) → 8 ≤ (ge
 index_is setting slab index some =
     let g = geometry_in setting slab.cache in
     ap (λ (n : ℕ). n / g.chunk) (step slab.base (colour_of (cache_def_in setting slab.cache).align g.leftover slab.made) index g.chunk) ∙ divided index g.chunk (omega arith)
-
-begins : (setting : Setting) (slab : HeapSlab) (index : ℕ) → 8 ≤ (geometry_in setting slab.cache).chunk → index < (geometry_in setting slab.cache).rounds
-    → begins_chunk setting slab (chunk_start setting slab index) ≡ true
-begins setting slab index some less =
-    let g = geometry_in setting slab.cache in
-    let first = chunk_start setting slab 0 in
-    let at = chunk_start setting slab index in
-    let more = index_below index g.rounds g.chunk less (omega arith) in
-    let inside : is_within first (g.rounds * g.chunk) at ≡ true = and_from _ _ (le-leb first at (omega arith)) (lt-ltb at (first + g.rounds * g.chunk) (omega arith)) in
-    ap (λ (b : Bool). option_map_or (λ i. eqb (chunk_start setting slab i) at) (cond b (Some ((at - first) / g.chunk)) None) false) inside
-    ∙ ap (λ (i : ℕ). eqb (chunk_start setting slab i) at) (index_is setting slab index some) ∙ eq-eqb at at refl
-  where
-    index_below : (i n c : ℕ) → i < n → 0 < c → i * c < n * c
-    index_below i n c lt some = mul-lt-mul_of_pos_right lt some
 
 -- a chunk of a slab lies in the slab's pages
 pub chunk_lies : (setting : Setting) (slab : HeapSlab) (address : ℕ) → IsHeader setting.header → IsChunkOf setting slab address
@@ -176,7 +125,7 @@ pub seen : (setting : Setting) (state : State) (slab : HeapSlab) (address : ℕ)
 seen setting state slab address header found =
     let both = find_found (λ (s : HeapSlab). begins_chunk setting s address) state.slabs slab found in
     let some = (any_geometry setting slab.cache header).chunk_some in
-    let chunk = begun setting slab address some both.1 in
+    let chunk = begun setting slab address (omega (arith, some)) both.1 in
     let lies = chunk_lies setting slab address header chunk in
     record { stands = both.0; begins = chunk; low = lies.0; high = lies.1; some = some }
 
@@ -191,9 +140,9 @@ found_at_place setting state slab index header separate stands less =
     record {
       its_kind = refl;
       slab = slab;
-      found = find_alone (λ (s : HeapSlab). begins_chunk setting s at) state.slabs slab stands (begins setting slab index some less) (λ other there passes.
+      found = find_alone (λ (s : HeapSlab). begins_chunk setting s at) state.slabs slab stands (begins setting slab at (omega (arith, some)) (record { index = index; within = less; there = refl })) (λ other there passes.
           let more = (any_geometry setting other.cache header).chunk_some in
-          let lies = chunk_lies setting other at header (begun setting other at more passes) in
+          let lies = chunk_lies setting other at header (begun setting other at (omega (arith, more)) passes) in
           elim (pair_of (λ (a b : HeapSlab). StandApart (span_of_slab setting a) (span_of_slab setting b)) state.slabs other slab apart there stands) [
             | inl same ↦ same
             | inr (inl (inl below)) ↦ absurd (omega (arith, below, lies.1, here.0, more))

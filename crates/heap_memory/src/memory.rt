@@ -4,7 +4,7 @@ ghost use Rattle.umem_base.specs.Pages.{pages_for};
 ghost use Rattle.script.specs.Rules.{IsHeader};
 ghost use Rattle.case_table.specs.Geometry.{IsAlign};
 ghost use Rattle.plain_heap.specs.Laws.{AreSeparate};
-ghost use Rattle.plain_heap.specs.Replies.{finding_at, load_answer, report_at, report_of, store_answer};
+ghost use Rattle.plain_heap.specs.Replies.{finding_at, load_answer, report_at, store_answer};
 ghost use Rattle.plain_heap.specs.Setting.{geometry_in};
 ghost use Rattle.plain_heap.specs.State.{after_link, after_shrink, after_store, give_back, hand_out, start_state, with_slot, word_of_slot};
 ghost use Rattle.heap_memory.specs.Chunks.{HasNumbers, HoldsChunk, IsChunkAt, IsKind, IsNextSlab, IsRequested};
@@ -21,7 +21,7 @@ use crate::slots::slot_address;
 use addr_space::{Space, Unmapped};
 use buftag::{Finding, State, first_broken};
 use case_table::{TAG_BYTES, colour, geometry};
-use plain_heap::{Reply, Report};
+use plain_heap::{Reply, Report, report_of};
 use script::Header;
 use span_arena::Arena;
 use std::alloc::Global;
@@ -288,16 +288,5 @@ fn reply_of(stored: Result<(), Unmapped>) -> Reply
     match stored {
         Ok(()) => Reply::Ok,
         Err(_) => Reply::Fault,
-    }
-}
-
-/// What is reported of a chunk that is handed out, by its finding as a free one.
-fn report_of(finding: Option<Finding>) -> Report
-    ensures { result ≡ report_of finding }
-{
-    match finding {
-        Some(Finding::Content(offset)) => Report::Modified(offset),
-        Some(Finding::Redzone) | Some(Finding::BadTag) => Report::Redzone,
-        _ => Report::Clean,
     }
 }

@@ -22,15 +22,15 @@ use Rattle.plain_heap.specs.Legal.{HandsOutFrom, IsAllocFrom, IsAnsweredFrom, Is
 use Rattle.plain_heap.specs.Replies.{IsCacheFull, IsChoice}
 use Rattle.plain_heap.specs.Setting.{IsCache, Setting, geometry_in}
 use Rattle.plain_heap.specs.State.{HeapSlab, IsChunkOf, IsChunkOfCache, IsFreePage, LiveBuffer, State, begins_chunk, chunk_start, held_at, is_live, is_taken, new_slab}
+use Rattle.plain_heap.proofs.SlabOfChunk.{begins, begun}
 use Rattle.yardstick.specs.Tests.{are_all_live, hands_out_from, has_run, has_unused, is_all_live, is_alloc_from, is_answered_from, is_cache_full, is_choice, is_chunk_of_cache, is_free_page, is_free_run, is_reap, is_reaping, has_no_live}
 use Rattle.yardstick.proofs.CachesLemmas.{any_is_sound}
-use Rattle.yardstick.proofs.ChunksLemmas.{begins, begun}
 use Rattle.yardstick.proofs.TestsLemmas.{all_from, all_in, all_range, any_in, below_range, both, found_in, in_range, none_is, not_true, range_all}
 
 -- ---- chunks
 
-chunk_some : (setting : Setting) (cache : ℕ) → IsHeader setting.header → 8 ≤ (geometry_in setting cache).chunk
-chunk_some setting cache header = (any_is_sound setting cache header).chunk_some
+chunk_some : (setting : Setting) (cache : ℕ) → IsHeader setting.header → 0 < (geometry_in setting cache).chunk
+chunk_some setting cache header = omega (arith, (any_is_sound setting cache header).chunk_some)
 
 pub tells_chunk : (setting : Setting) (slab : HeapSlab) (address : ℕ) → IsHeader setting.header → Decides (begins_chunk setting slab address) (IsChunkOf setting slab address)
 tells_chunk setting slab address header =

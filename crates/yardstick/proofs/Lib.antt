@@ -1,5 +1,4 @@
 pub mod CachesLemmas
-pub mod ChunksLemmas
 pub mod FreeChunkLemmas
 pub mod LegalLemmas
 pub mod PagesLemmas

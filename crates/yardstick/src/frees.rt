@@ -3,7 +3,7 @@
 ghost use Rattle.std.specs.Prelude.{◌≡◌, ◌==◌, IfOk};
 ghost use Rattle.std.specs.List.{list_any};
 ghost use Rattle.plain_heap.specs.Frees.{refusal_of};
-ghost use Rattle.plain_heap.specs.Replies.{finding_at, free_answer_in, refusal_by_cache, refusal_by_size, report_of};
+ghost use Rattle.plain_heap.specs.Replies.{finding_at, free_answer_in, refusal_by_cache, refusal_by_size};
 ghost use Rattle.plain_heap.specs.State.{held_at};
 ghost use Rattle.yardstick.specs.Kept.{state_kept};
 
@@ -15,7 +15,7 @@ use crate::setting::Setting;
 use crate::slabs::{number_of, slab_at};
 use buftag::{Finding, State, first_broken};
 use case_table::{CLASS_COUNT, TAG_BYTES};
-use plain_heap::{Held, Reply, Report};
+use plain_heap::{Held, Reply};
 use script::Op;
 use std::alloc::Global;
 use umem_base::NoMemory;
@@ -58,19 +58,6 @@ pub fn finding_at(
     let count = shape.content + TAG_BYTES;
     let bytes = bytes_left(alloc, setting, &kept.writes, at, count)?;
     Ok(first_broken(&bytes, &shape, chunk))
-}
-
-/// What is reported of a chunk that is handed out, by its finding as a free one.
-pub fn report_of(finding: Option<Finding>) -> Report
-    ensures { result ≡ report_of finding }
-{
-    match finding {
-        Some(Finding::Content(offset)) => Report::Modified(offset),
-        Some(Finding::Redzone | Finding::BadTag) => Report::Redzone,
-        Some(Finding::SizeCode | Finding::GuardByte | Finding::Unconstructed(_)) | None => {
-            Report::Clean
-        }
-    }
 }
 
 fn refusal_by_size(size: u32, held: &Held) -> Option<Reply>

@@ -7,7 +7,7 @@ ghost use Rattle.yardstick.specs.Tests.{are_all_live, is_all_live, is_cache_full
 
 use crate::bytes::word_left;
 use crate::caches::geometry_of;
-use crate::frees::{finding_at, free_answer, held_at, report_of};
+use crate::frees::{finding_at, free_answer, held_at};
 use crate::kept::Kept;
 use crate::live_buffer::LiveBuffer;
 use crate::pages::{has_run, is_free_run, is_mapped_range};
@@ -16,7 +16,7 @@ use crate::slab::HeapSlab;
 use crate::slabs::{has_chunk_at, start_of};
 use buftag::State;
 use case_table::class_of;
-use plain_heap::{Reply, Report};
+use plain_heap::{Reply, Report, report_of};
 use script::Op;
 use std::alloc::Global;
 use umem_base::{NoMemory, pages_for};
