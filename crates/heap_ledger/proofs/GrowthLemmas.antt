@@ -29,12 +29,12 @@ drop_behind : (front rest : List Entry) (entry : Entry) → drop (suc (length fr
 drop_behind [] rest entry = refl
 drop_behind (first ∷ front) rest entry = drop_behind front rest entry
 
-get_seam : (front rest : List Entry) (entry : Entry) → slice_get (front ++ entry ∷ rest) (length front + 1) ≡ slice_get rest 0
+pub get_seam : (front rest : List Entry) (entry : Entry) → slice_get (front ++ entry ∷ rest) (length front + 1) ≡ slice_get rest 0
 get_seam front rest entry =
     let one : length front + 1 ≡ suc (length front) = omega arith in
     ap (slice_get (front ++ entry ∷ rest)) one ∙ get_behind front rest entry
 
-drop_seam : (front rest : List Entry) (entry : Entry) → drop (length front + 1) (front ++ entry ∷ rest) ≡ rest
+pub drop_seam : (front rest : List Entry) (entry : Entry) → drop (length front + 1) (front ++ entry ∷ rest) ≡ rest
 drop_seam front rest entry =
     let one : length front + 1 ≡ suc (length front) = omega arith in
     ap (λ n. drop n (front ++ entry ∷ rest)) one ∙ drop_behind front rest entry

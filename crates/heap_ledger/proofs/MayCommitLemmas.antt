@@ -75,7 +75,7 @@ answers_may ledger thread call answer is next told =
     may ledger thread [] call answer is next (omega arith, told.reply, told.tidy, tt)
 
 -- the first of some entries is the next of its thread
-first_of_thread : (first : Entry) (more : List Entry) → next_of_thread first.thread (first ∷ more) ≡ Some first
+pub first_of_thread : (first : Entry) (more : List Entry) → next_of_thread first.thread (first ∷ more) ≡ Some first
 first_of_thread first more = elim (eqb_tells first.thread first.thread) [
   | inl is ↦ ap (λ b. cond b (Some first) (next_of_thread first.thread more)) is.0
   | inr isnt ↦ absurd (isnt.1 refl)
@@ -98,14 +98,14 @@ grows_may ledger thread call slab answer is next can told from =
 
 -- ---- slabs that are given back
 
-AllPairs-head : {X : Type 0} (R : X → X → Type 0) (x : X) (xs : List X) → AllPairs R (x ∷ xs) → All (R x) xs
+pub AllPairs-head : {X : Type 0} (R : X → X → Type 0) (x : X) (xs : List X) → AllPairs R (x ∷ xs) → All (R x) xs
 AllPairs-head R x xs h k d lt = h 0 (suc k) d (omega arith) (omega arith)
 
-AllPairs-tail : {X : Type 0} (R : X → X → Type 0) (x : X) (xs : List X) → AllPairs R (x ∷ xs) → AllPairs R xs
+pub AllPairs-tail : {X : Type 0} (R : X → X → Type 0) (x : X) (xs : List X) → AllPairs R (x ∷ xs) → AllPairs R xs
 AllPairs-tail R x xs h i j d less lt = h (suc i) (suc j) d (omega arith) (omega arith)
 
 -- a slab that may be given back still may, when another was
-still_can : (setting : Setting) (state : State) (base : ℕ) (slab : SlabAt) → slab.base ≢ base → CanShrink setting state slab → CanShrink setting (after_shrink state base) slab
+pub still_can : (setting : Setting) (state : State) (base : ℕ) (slab : SlabAt) → slab.base ≢ base → CanShrink setting state slab → CanShrink setting (after_shrink state base) slab
 still_can setting state base slab apart can = record {
   standing = can.standing;
   stands = Contains-left_out_by (λ (s : HeapSlab). s.base) state.slabs base can.standing can.stands (λ same. apart (sym can.its_base ∙ same));
@@ -115,7 +115,7 @@ still_can setting state base slab apart can = record {
 }
 
 -- two slabs that may be given back and have one base are one
-same_place : (setting : Setting) (state : State) (one other : SlabAt) → IsHeader setting.header → IsInPlace setting state → CanShrink setting state one → CanShrink setting state other
+pub same_place : (setting : Setting) (state : State) (one other : SlabAt) → IsHeader setting.header → IsInPlace setting state → CanShrink setting state one → CanShrink setting state other
     → one.base ≡ other.base → one.cache ≡ other.cache
 same_place setting state one other header places can may same =
     let InArena : HeapSlab → Type 0 = λ s. IsInArena setting (span_of_slab setting s) in
@@ -182,7 +182,7 @@ module _ (setting : Setting) (header : IsHeader setting.header) (thread : ℕ) (
   shrink_by_thread number end (next ∷ slabs) = refl
 
   -- the slabs that are left are in place
-  in_place_still : (state : State) (slab : SlabAt) → IsInPlace setting state → CanShrink setting state slab → IsInPlace setting (after_shrink state slab.base)
+  pub in_place_still : (state : State) (slab : SlabAt) → IsInPlace setting state → CanShrink setting state slab → IsInPlace setting (after_shrink state slab.base)
   in_place_still state slab places can =
       subst (λ (b : ℕ). AreInPlace setting state.live (left_out_by (λ (s : HeapSlab). s.base) state.slabs b)) can.its_base
       (without_slab setting state.live state.slabs places can.standing can.stands can.unused)

@@ -1,5 +1,6 @@
 ghost use Rattle.std.specs.Prelude.{◌≡◌, ◌+◌, ◌^◌, ◌<◌, ◌≤◌, ◌↔◌, ◌∷◌, ◌++◌, [], IfOk, IsSome, IsTrue, length, option_map, sum_by};
-ghost use Rattle.script.specs.Plan.{plan_of};
+ghost use Rattle.script.specs.declared.limits.TheConstants.{MOST_CALLS_2};
+ghost use Rattle.script.specs.Plan.{call_count, plan_of};
 ghost use Rattle.script.specs.Rules.{IsPlan};
 ghost use Rattle.plain_heap.specs.Calls.{due_call, next_call, number_of_calls, turns_made};
 ghost use Rattle.heap_ledger.specs.Ledger.{Commits, IsLedger, KeepsTurnLimits, MayCommit, commit_entries, entry, grown, inner_entries, shrunk};
@@ -60,7 +61,7 @@ impl Ledger {
         }) }
     {
         let schedule = Schedule::start(alloc, script)?;
-        let history = History::with_room(alloc, 3 * count_calls(script.phases.as_slice()))?;
+        let history = History::with_room(alloc, 3 * calls_of(script))?;
         Ok(Ledger {
             script: script.clone()?,
             options: *options,
@@ -175,6 +176,15 @@ impl Ledger {
         enter_shrinks(&mut self.history, thread, slabs);
         enter_call(&mut self.history, thread, call, answer);
     }
+}
+
+/// How many calls a script has.
+pub fn calls_of(script: &Script) -> u32
+    requires { IsPlan (plan_of script.now) }
+    ensures calls { result ≡ call_count (plan_of script.now) }
+    ensures few { result ≤ MOST_CALLS_2 }
+{
+    count_calls(script.phases.as_slice())
 }
 
 /// How many calls the phases have.

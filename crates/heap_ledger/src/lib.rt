@@ -10,7 +10,7 @@ mod ready;
 mod schedule;
 mod slab_at;
 
-pub use ledger::Ledger;
+pub use ledger::{Ledger, calls_of};
 pub use ready::Ready;
 pub use slab_at::SlabAt;
 
