@@ -1,0 +1,7 @@
+mod FreeLemmas
+mod LawLemmas
+mod Lists
+mod ReapLemmas
+mod StandingLemmas
+mod StateLemmas
+mod UnusedLemmas
