@@ -1,0 +1,13 @@
+-- When tables are those of a history.
+use Rattle.std.specs.Prelude.{◌+◌, ◌≤◌, length}
+use Rattle.script.specs.Plan.{call_count}
+use Rattle.plain_heap.specs.Calls.{turns_made}
+use Rattle.heap_ledger.specs.Ledger.{IsLedger, Ledger, run_setting, run_state}
+use Rattle.heap_books.specs.declared.tables.Tables.{Tables}
+use Rattle.heap_books.specs.Tables.{AreTablesOf}
+
+-- the tables are those of what the entries left, and there is room for a buffer more for each call that is left
+pub record AreBooks (ledger : Ledger) (tables : Tables) : Type 0 where
+  pub legal : IsLedger ledger
+  pub are : AreTablesOf (run_setting ledger) (run_state ledger) tables
+  pub room : call_count ledger.plan ≤ length (turns_made ledger.entries) + tables.live.spare

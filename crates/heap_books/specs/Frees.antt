@@ -1,0 +1,55 @@
+-- How frees are made, and which rounds come back of them.
+use Rattle.std.specs.Prelude.{◌≡◌, ℕ, false, true, List, Option, None, IfSome, IsSome, option_map}
+use Rattle.script.specs.declared.operation.Op.{Op}
+use Rattle.plain_heap.specs.declared.entry.Entry.{Entry}
+use Rattle.plain_heap.specs.declared.reply.Reply.{Reply}
+use Rattle.plain_heap.specs.declared.reply.Reply.TheVariants as reply
+use Rattle.plain_heap.specs.Live.{live_at}
+use Rattle.plain_heap.specs.Setting.{Setting}
+use Rattle.plain_heap.specs.State.{State, give_back, word_of_slot}
+use Rattle.heap_memory.specs.Memory.{IsMemoryOf}
+use Rattle.heap_slabs.specs.Chunks.{placed_at}
+use Rattle.heap_books.specs.declared.freed.Freed.{Freed}
+use Rattle.heap_books.specs.declared.freed.Freed.TheVariants.{Behind, Made}
+use Rattle.heap_books.specs.declared.tables.Tables.{Tables}
+use Rattle.heap_books.specs.Kinds.{freed_slot, is_free}
+use Rattle.heap_books.specs.Tables.{AreOfHistory, ForEachHistory, Performs}
+
+-- the number of the chunk that begins at an address, if one does
+abbrev pub number_there : Setting → State → ℕ → Option ℕ
+number_there setting state address = option_map (λ placed. placed.chunk.number) (placed_at setting state address)
+
+-- the number of the chunk that a free of a word gave back, if it was answered ok and a chunk begins there
+abbrev pub number_back : Setting → State → ℕ → Reply → Option ℕ
+number_back setting state word reply.Ok = number_there setting state word
+number_back setting state word other = None
+
+-- a round came back of a free exactly where it gave a chunk back, and has the number of that chunk
+abbrev pub IsRoundOf : Setting → State → ℕ → Op → Reply → Option ℕ → Type 0
+IsRoundOf setting state thread op answer round =
+    IfSome (freed_slot op) (λ slot. round ≡ number_back setting state (word_of_slot state thread slot) answer)
+
+-- the tables are those of some legal history, and a buffer lives at an address
+pub record LivesAt (tables : Tables) (address : ℕ) : Type 0 where
+  pub setting : Setting
+  pub entries : List Entry
+  pub its : AreOfHistory setting entries tables
+  pub lives : IsSome (live_at tables.live.buffers address)
+
+-- the memory is that of what it leaves to give the buffer at an address back
+abbrev pub TakesBack : Tables → Tables → ℕ → Type 0
+TakesBack old new address =
+    ForEachHistory (λ setting state. IsMemoryOf setting (give_back setting state address) new.memory) old
+
+-- the tables are those of some legal history
+pub record AreOfSome (tables : Tables) : Type 0 where
+  pub setting : Setting
+  pub entries : List Entry
+  pub its : AreOfHistory setting entries tables
+
+-- a free was made, and its round came back; or the operation is none, and nothing changed
+abbrev pub PerformsFree : Tables → Tables → ℕ → Op → Freed → Type 0
+PerformsFree old new thread op Behind = (is_free op ≡ false) × (new ≡ old)
+PerformsFree old new thread op (Made answer round) =
+    (is_free op ≡ true) × Performs old new thread op answer
+    × ForEachHistory (λ setting state. IsRoundOf setting state thread op answer round) old

@@ -1,0 +1,15 @@
+pub mod Allocs
+pub mod Books
+pub mod Entering
+pub mod Frees
+pub mod Kinds
+pub mod Large
+pub mod Plain
+pub mod Slots
+pub mod Tables
+pub mod Turns
+pub mod Places
+pub mod Placed
+pub mod Performed
+pub mod FreeChunks
+pub mod Laws

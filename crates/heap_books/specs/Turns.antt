@@ -1,0 +1,92 @@
+-- What commits give, and which entries they add.
+use Rattle.std.specs.Prelude.{◌≡◌, ◌≢◌, ℕ, Bool, [], Option, None, Some, if◌then◌else◌}
+use Rattle.std.specs.Option.{option_and_then}
+use Rattle.script.specs.declared.operation.Op.{Op}
+use Rattle.script.specs.Plan.{Call}
+use Rattle.plain_heap.specs.declared.reply.Reply.{Reply}
+use Rattle.plain_heap.specs.declared.reply.Reply.TheVariants.{Ok}
+use Rattle.plain_heap.specs.Calls.{due_call}
+use Rattle.plain_heap.specs.Laws.{IsAnsweredAt}
+use Rattle.heap_ledger.specs.Commits.{IsTidyReply}
+use Rattle.heap_ledger.specs.Ledger.{Ledger, after_commit, run_setting, run_state}
+use Rattle.heap_memory.specs.declared.chunk.Chunk.{Chunk}
+use Rattle.heap_books.specs.declared.chunk_request.ChunkRequest.{ChunkRequest}
+use Rattle.heap_books.specs.declared.freed.Freed.{Freed}
+use Rattle.heap_books.specs.declared.freed.Freed.TheVariants as freed
+use Rattle.heap_books.specs.declared.tried.Tried.{Tried}
+use Rattle.heap_books.specs.declared.tried.Tried.TheVariants as tried
+use Rattle.heap_books.specs.declared.turn.Turn.{Turn}
+use Rattle.heap_books.specs.declared.turn.Turn.TheVariants.{Behind, Made}
+use Rattle.heap_books.specs.Allocs.{HasFreeNumber, HasNoFreeNumber}
+use Rattle.heap_books.specs.Frees.{IsRoundOf}
+use Rattle.heap_books.specs.Kinds.{chunk_request, is_free, is_chunk_call}
+
+-- the call of a thread of that number, if it is the thread's next one and of a kind
+abbrev pub due_of : (Op → Bool) → Ledger → ℕ → ℕ → Option Call
+due_of kind ledger thread number =
+    option_and_then (λ call. if kind call.op then Some call else None)
+    (due_call ledger.plan ledger.entries thread number)
+
+-- no such call is due, and nothing was made
+pub record Waits (kind : Op → Bool) (old new : Ledger) (thread number : ℕ) : Type 0 where
+  pub none : due_of kind old thread number ≡ None
+  pub same : new ≡ old
+
+-- such a call was due, and was answered as the state before it allows, with the lowest pages that fit; its entry stands
+-- behind the others, and nothing else was made
+pub record Makes (kind : Op → Bool) (old new : Ledger) (thread number : ℕ) (answer : Reply) : Type 0 where
+  pub call : Call
+  pub due : due_of kind old thread number ≡ Some call
+  pub reply : IsTidyReply (run_setting old) (run_state old) thread call.op answer
+  pub made : new ≡ after_commit old thread [] call answer
+
+-- what a commit of calls of a kind gives
+abbrev pub TakesTurn : (Op → Bool) → Ledger → Ledger → ℕ → ℕ → Turn → Type 0
+TakesTurn kind old new thread number Behind = Waits kind old new thread number
+TakesTurn kind old new thread number (Made answer) = Makes kind old new thread number answer
+
+-- ---- frees
+
+-- a free was due and answered; a round came back exactly where it gave a chunk back, and has that chunk's number; and
+-- any other answer than ok changed nothing but that its entry was added
+pub record MakesFree (old new : Ledger) (thread number : ℕ) (answer : Reply) (round : Option ℕ) : Type 0 where
+  pub call : Call
+  pub due : due_of is_free old thread number ≡ Some call
+  pub reply : IsTidyReply (run_setting old) (run_state old) thread call.op answer
+  pub back : IsRoundOf (run_setting old) (run_state old) thread call.op answer round
+  pub made : new ≡ after_commit old thread [] call answer
+  pub kept : answer ≢ Ok → run_state new ≡ run_state old
+
+-- what a commit of a free gives
+abbrev pub TakesFree : Ledger → Ledger → ℕ → ℕ → Freed → Type 0
+TakesFree old new thread number freed.Behind = Waits is_free old new thread number
+TakesFree old new thread number (freed.Made answer round) = MakesFree old new thread number answer round
+
+-- ---- allocations by a round
+
+-- an allocation from a cache was due, no free chunk of the cache has the number, and nothing was made
+pub record IsTaken (old new : Ledger) (thread number wanted : ℕ) : Type 0 where
+  pub call : Call
+  pub due : due_of is_chunk_call old thread number ≡ Some call
+  pub request : ChunkRequest
+  pub asked : chunk_request (run_setting old) call.op ≡ Some request
+  pub none : HasNoFreeNumber request.cache wanted (run_setting old) (run_state old)
+  pub same : new ≡ old
+
+-- such an allocation was due, and was answered with the free chunk of the cache that has the number
+pub record MakesWith (old new : Ledger) (thread number wanted : ℕ) (answer : Reply) : Type 0 where
+  pub call : Call
+  pub due : due_of is_chunk_call old thread number ≡ Some call
+  pub request : ChunkRequest
+  pub asked : chunk_request (run_setting old) call.op ≡ Some request
+  pub chunk : Chunk
+  pub free : HasFreeNumber request.cache wanted chunk (run_setting old) (run_state old)
+  pub at : IsAnsweredAt answer chunk.address
+  pub reply : IsTidyReply (run_setting old) (run_state old) thread call.op answer
+  pub made : new ≡ after_commit old thread [] call answer
+
+-- what a commit of an allocation by a round gives
+abbrev pub TakesRound : Ledger → Ledger → ℕ → ℕ → ℕ → Tried → Type 0
+TakesRound old new thread number wanted tried.Behind = Waits is_chunk_call old new thread number
+TakesRound old new thread number wanted tried.Taken = IsTaken old new thread number wanted
+TakesRound old new thread number wanted (tried.Made answer) = MakesWith old new thread number wanted answer

@@ -1,0 +1,168 @@
+ghost use Rattle.std.specs.Prelude.{◌≡◌, ◌↔◌, [], IfOk, OnErr, IsTrue, is_some};
+ghost use Rattle.script.specs.Plan.{plan_of};
+ghost use Rattle.script.specs.Rules.{IsPlan};
+ghost use Rattle.plain_heap.specs.Calls.{due_call};
+ghost use Rattle.heap_ledger.specs.Ledger.{IsLedger};
+ghost use Rattle.heap_books.specs.Kinds.{is_large, is_plain_call};
+ghost use Rattle.heap_books.specs.Turns.{TakesFree, TakesRound, TakesTurn};
+
+use crate::chunk_calls::{chunk_request, free_chunk, hand_chunk};
+use crate::freed::Freed;
+use crate::frees::free;
+use crate::large_calls::large;
+use crate::plain_calls::plain;
+use crate::tables::Tables;
+use crate::tried::Tried;
+use crate::turn::Turn;
+use heap_ledger::{Ledger, calls_of};
+use heap_memory::Memory;
+use heap_slabs::HeapSlabs;
+use plain_heap::{History, Live};
+use script::Script;
+use slab_layer::Round;
+use std::alloc::Global;
+use std::marker::Model;
+use umem_base::NoMemory;
+use umem_options::{Logging, Options};
+
+/// The tables of one history: its entries, the bytes and pages that they left, and the live buffers. Contracts see what
+/// it was given and its entries; its type knows that the tables are those of the entries.
+#[derive(Drop)]
+pub struct Books {
+    ledger: Ledger,
+    tables: Tables,
+}
+
+impl Model for Books {
+    ghost use Rattle.heap_ledger.specs.Ledger.{Ledger};
+    ghost use Rattle.heap_books.specs.Books.{AreBooks};
+
+    ghost Value = { Ledger };
+
+    ghost view = { λ b. b.ledger };
+
+    ghost invariant = { λ b. AreBooks b.ledger b.tables };
+}
+
+impl Books {
+    /// Nothing was called yet. It takes the memory of all entries, and of the table of live buffers.
+    pub fn start(
+        alloc: Global,
+        script: &Script,
+        options: &Options,
+        logging: &Logging,
+    ) -> Result<Books, NoMemory>
+        requires { IsPlan (plan_of script.now) }
+        ensures { IfOk result (λ books. books ≡ record {
+          plan = plan_of script.now;
+          options = options.now;
+          logging = logging.now;
+          entries = [];
+        }) }
+    {
+        let ledger = Ledger::start(alloc, script, options, logging)?;
+        let memory = Memory::start(alloc, &script.header)?;
+        let live = Live::with_room(alloc, calls_of(script))?;
+        let slabs = HeapSlabs::start(alloc, &script.header, options.has_guards())?;
+        let tables = Tables {
+            memory,
+            live,
+            slabs,
+        };
+        Ok(Books { ledger, tables })
+    }
+
+    /// Tells whether it was given these three.
+    pub fn is_run(&self, script: &Script, options: &Options, logging: &Logging) -> bool
+        ensures { IsTrue result ↔ (self.now.plan ≡ plan_of script.now) × (self.now.options ≡ options.now)
+            × (self.now.logging ≡ logging.now) }
+    {
+        self.ledger.is_run(script, options, logging)
+    }
+
+    /// Tells whether the call of a thread of that number, counted from 0 for each thread, is its next one.
+    pub fn is_due(&self, thread: u32, call: u32) -> bool
+        ensures { result ≡ is_some (due_call self.now.plan self.now.entries thread call) }
+    {
+        self.ledger.due(thread, call).is_some()
+    }
+
+    /// The entries.
+    pub fn history(&self) -> &History
+        ensures entries { result.now.items ≡ self.now.entries }
+        ensures sound { IsLedger self.now }
+    {
+        self.ledger.history()
+    }
+
+    /// The entries, of a run that is over.
+    pub fn into_history(self) -> History
+        ensures entries { result.items ≡ self.entries }
+        ensures sound { IsLedger self }
+    {
+        self.ledger.into_history()
+    }
+
+    /// Makes a call that hands nothing out and gives nothing back. It takes no memory.
+    pub fn commit_plain(&mut self, thread: u32, call: u32) -> Turn
+        ensures { TakesTurn is_plain_call self.old self.new thread call result }
+    {
+        let Some(ready) = self.ledger.due(thread, call) else {
+            return Turn::Behind;
+        };
+        let Some(reply) = plain(&mut self.tables, thread, ready.op()) else {
+            return Turn::Behind;
+        };
+        self.ledger.commit(thread, reply);
+        Turn::Made(reply)
+    }
+
+    /// Makes an allocation of whole pages: at the lowest run that fits, first fit by address, this project's own.
+    pub fn commit_large(&mut self, thread: u32, call: u32) -> Result<Turn, NoMemory>
+        ensures ok { IfOk result (TakesTurn is_large self.old self.new thread call) }
+        ensures err { OnErr result (self.new ≡ self.old) }
+    {
+        let Some(ready) = self.ledger.due(thread, call) else {
+            return Ok(Turn::Behind);
+        };
+        let made = large(&mut self.tables, thread, ready.op())?;
+        let Some(reply) = made else {
+            return Ok(Turn::Behind);
+        };
+        self.ledger.commit(thread, reply);
+        Ok(Turn::Made(reply))
+    }
+
+    /// Makes a free, and gives the round of the chunk back that was freed, if one was. It takes no memory.
+    pub fn commit_free(&mut self, thread: u32, call: u32) -> Freed
+        ensures { TakesFree self.old self.new thread call result }
+    {
+        let Some(ready) = self.ledger.due(thread, call) else {
+            return Freed::Behind;
+        };
+        let Freed::Made { reply, round } = free(&mut self.tables, thread, ready.op()) else {
+            return Freed::Behind;
+        };
+        self.ledger.commit(thread, reply);
+        Freed::Made { reply, round }
+    }
+
+    /// Makes an allocation from a cache with the chunk of a round, which is given up where that chunk is no free one of
+    /// the cache. It takes no memory.
+    pub fn commit_alloc(&mut self, thread: u32, call: u32, round: Round) -> Tried
+        ensures { TakesRound self.old self.new thread call round result }
+    {
+        let Some(ready) = self.ledger.due(thread, call) else {
+            return Tried::Behind;
+        };
+        let Some(request) = chunk_request(&self.tables.slabs, ready.op()) else {
+            return Tried::Behind;
+        };
+        let Some(chunk) = free_chunk(&self.tables, request.cache, round.chunk()) else {
+            return Tried::Taken;
+        };
+        let reply = hand_chunk(&mut self.tables, thread, request, chunk);
+        self.ledger.commit(thread, reply);
+        Tried::Made(reply)
+    }
+}
