@@ -1,8 +1,8 @@
 //! Cores that are made item by item, and the bytes that they are written as.
 
+use crate::cores::sample::core_bytes;
+use crate::cores::samples::{NEW_FIRST, NEW_SECOND, ONE_BUFFER};
 use crate::fault::SampleFault;
-use crate::sample::core_bytes;
-use crate::samples::{NEW_FIRST, NEW_SECOND, ONE_BUFFER};
 use bitflags::Flags;
 use case_table::{CLASS_COUNT, class_def};
 use core_format::{CacheItem, Core, CpuPlace, DepotItem, OwnRoot, SlabItem, read_core, write_core};

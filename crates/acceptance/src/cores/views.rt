@@ -2,9 +2,9 @@
 
 ghost use Rattle.std.specs.Prelude.{◌≡◌, ◌<◌};
 
+use crate::cores::samples::{CYCLE, MIXED, NEW_SECOND, ONE_BUFFER, ONE_FREED, SESSION};
+use crate::cores::scene::{put_address, view_of_text};
 use crate::fault::SampleFault;
-use crate::samples::{CYCLE, MIXED, NEW_SECOND, ONE_BUFFER, ONE_FREED, SESSION};
-use crate::scene::{put_address, view_of_text};
 use buftag::State;
 use heap_view::{Buffer, Hit, View, whatis_text};
 use std::alloc::Global;

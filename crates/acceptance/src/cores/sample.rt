@@ -9,14 +9,16 @@
 //! - `rising FIRST PAST`: the numbers from one up to another, of four bytes
 //! - `cache NAME N..`: a name with the zeros behind it, and numbers of four bytes
 //! - `classes FIRST PAST N..`: size classes, each with its name, its size and its alignment, and these numbers
+//! - `caches FIRST PAST N..`: declared caches that are named after their numbers, each with these numbers
+//! - `slabs FIRST PAST CACHE ROUNDS`: the heads of slabs of one page and so many chunks, which are all allocated
 //! - `free FIRST PAST CONTENT`: free chunks of so many bytes, from one number up to another, with their tags
 //! - `audits FIRST PAST FRAME..`: audits of such chunks, each of thread 0 at time 1 with this stack
 
-use crate::fault::SampleFault;
-use crate::pieces::{
-    put_audits, put_cache, put_classes, put_free, put_hex, put_long, put_repeated, put_rising,
-    put_short, put_zeros,
+use crate::cores::pieces::{
+    put_audits, put_cache, put_caches, put_classes, put_free, put_hex, put_long, put_repeated,
+    put_rising, put_short, put_slabs, put_zeros,
 };
+use crate::fault::SampleFault;
 use std::alloc::Global;
 
 /// The bytes that a text of pieces gives.
@@ -51,6 +53,8 @@ fn put_piece(out: &mut Vec<u8>, kind: &str, rest: &str) -> Result<(), SampleFaul
         "rising" => put_rising(out, rest),
         "cache" => put_cache(out, rest),
         "classes" => put_classes(out, rest),
+        "caches" => put_caches(out, rest),
+        "slabs" => put_slabs(out, rest),
         "free" => put_free(out, rest),
         "audits" => put_audits(out, rest),
         _ => Err(SampleFault::BadLine),

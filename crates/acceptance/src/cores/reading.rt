@@ -1,10 +1,11 @@
 //! Cores that are read and written, and the first fault of bytes that are none.
 
-use crate::changes::{changed, row};
-use crate::sample::core_bytes;
-use crate::samples::{
-    CONSTRUCTED, CROWD, CYCLE, FULL, GUARDED, HALF_USED, MIXED, NEW_FIRST, NEW_SECOND, ONE_BUFFER,
-    ONE_FREED, PLAIN, SAVED, SESSION, TWO_LARGE, TWO_THREADS,
+use crate::cores::changes::{changed, row};
+use crate::cores::sample::core_bytes;
+use crate::cores::samples::{
+    ALL_FREED, ALL_SLABS, CONSTRUCTED, CONTENTS, CROWD, CYCLE, FULL, GUARDED, HALF_USED, LARGEST,
+    MIXED, NEW_FIRST, NEW_SECOND, ONE_BUFFER, ONE_FREED, PLAIN, RETURNED, SAVED, SESSION, TIES,
+    TWO_CPUS, TWO_LARGE, TWO_THREADS,
 };
 use core_format::{Core, CoreFault, Fault, read_core, write_core};
 use std::alloc::Global;
@@ -137,7 +138,48 @@ cut=80 : 72 short
 72=00 : 72 bad-length
 8=03 : 8 bad-version
 76=01 : 76 bad-length
-40=01 : 40 bad-length";
+40=01 : 40 bad-length
+36=0010 : 9812 bad-span
+36=0110 : 36 bad-length";
+
+// What a header may claim at most and one more, where the sections do not have it.
+const OF_FIRST: &str = ": core
+32=0004 : 5576 bad-slab
+32=0104 : 32 bad-length
+36=0004 : 5576 bad-span
+36=0104 : 36 bad-length
+12=05 40=000008 : 5960 short
+12=05 40=010008 : 40 bad-length
+44=000010 52=aaaa2a : core
+44=010010 : 44 bad-length
+52=abaa2a : 52 bad-length";
+
+const OF_LARGEST: &str = ": core
+16=21 : 16 bad-length
+20=0110 : 20 bad-length
+24=11 : 24 bad-length
+28=61 : 28 bad-length
+44=010010 : 44 bad-length
+52=abaa2a : 52 bad-length
+72=21 : 72 bad-length
+76=abaa2a : 76 bad-length";
+
+const OF_ALL_SLABS: &str = ": 108500 short
+32=0110 : 32 bad-length
+108108=01 : 108108 bad-slab";
+
+// A depot's round that stands in a list, in the loaded and in the previous magazine, and in the depot itself.
+const OF_ALL_FREED: &str = ": core
+6148=20 : 6148 round-twice
+6204=1e : 6204 round-twice
+6148=0f : 6148 round-twice
+6204=0d : 6204 round-twice
+6148=55 : 6148 bad-round
+5832=20 : 5832 round-twice
+5844=1e : 5844 round-twice";
+
+const OF_TWO_CPUS: &str = ": core
+6212=00 : 6212 round-twice";
 
 const OF_SAVED: &str = ": core
 12=04 : 76 bad-length
@@ -206,7 +248,12 @@ fn tells_of_small_cores(rt: HostRuntime) -> Result<(), Fail> {
         (ONE_BUFFER, OF_ONE),
         (ONE_FREED, OF_FREED),
         (TWO_LARGE, OF_LARGE),
+        (NEW_FIRST, OF_FIRST),
         (NEW_SECOND, OF_SECOND),
+        (LARGEST, OF_LARGEST),
+        (ALL_SLABS, OF_ALL_SLABS),
+        (ALL_FREED, OF_ALL_FREED),
+        (TWO_CPUS, OF_TWO_CPUS),
         (SAVED, OF_SAVED),
         (ALONE, ": 72 short"),
         ("", ": 0 short"),
@@ -239,6 +286,9 @@ fn reads_what_it_writes(rt: HostRuntime) -> Result<(), Fail> {
         CONSTRUCTED,
         HALF_USED,
         CROWD,
+        TIES,
+        CONTENTS,
+        RETURNED,
     ] {
         tells(&rt, rt.alloc(), &core_bytes(rt.alloc(), text)?, ": core")?;
     }

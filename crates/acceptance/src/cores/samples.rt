@@ -380,3 +380,124 @@ zeros 384
 u64 4
 u32 0 2
 text AB";
+
+/// Version 1, with guards: 32 buffers of 24 bytes were handed out, and freed in their order. The first fifteen stand in
+/// the depot, the next in the previous magazine, the last two in the loaded one.
+pub const ALL_FREED: &str = "text UMEMCORE
+u32 1 4 15 256 1 32 1 0 0 0 0 0 0 85
+u64 65
+zeros 4096
+classes 0 2 0
+classes 2 3 1
+classes 3 32 0
+u64 0x100000
+u32 2 0 0 53
+rising 32 85
+zeros 16
+u32 2 30 31 15
+rising 15 30
+zeros 240
+u32 1
+rising 0 15
+zeros 116
+free 0 85 24
+zeros 16";
+
+/// Version 1, with guards: two CPUs, each of which has freed a buffer of 24 bytes.
+pub const TWO_CPUS: &str = "text UMEMCORE
+u32 1 4 15 256 2 32 1 0 0 0 0 0 0 85
+u64 5
+zeros 4096
+classes 0 2 0
+classes 2 3 1
+classes 3 32 0
+u64 0x100000
+u32 2 0 0 83
+rising 2 85
+zeros 16
+u32 1 0 0
+zeros 248
+u32 1 1 0
+zeros 360
+free 0 85 24
+zeros 16";
+
+/// Version 2, with all flags, without a slab, and with the most of all that takes none: frames, contents, CPUs, caches,
+/// threads and the records of each log.
+pub const LARGEST: &str = "text UMEMCORE
+u32 2 7 32 4096 16 96 0 0 0 1048576 0 2796202 0 0
+u64 0
+u32 32 2796202 0
+zeros 135168
+classes 0 32 0 256
+caches 32 96 8 8 0 256
+zeros 12672";
+
+/// Version 2, with as many slabs as the arena has pages, up to their first page, which is missing.
+pub const ALL_SLABS: &str = "text UMEMCORE
+u32 2 0 15 256 1 32 4096 0 0 0 0 0 0 2097152
+u64 0
+u32 1 0 0
+zeros 8192
+classes 0 32 0 256
+slabs 0 4096 0 512
+zeros 384";
+
+/// Version 2, with audits: two buffers of 8 bytes, and one of 16 that takes as many bytes.
+pub const TIES: &str = "text UMEMCORE
+u32 2 5 15 256 1 32 2 0 3 0 0 0 0 230
+u64 20
+u32 1 0 0
+zeros 8192
+classes 0 32 1 256
+slabs 0 1 0 128
+u64 0x101000
+u32 1 0 128 101
+rising 129 230
+zeros 384
+audits 0 2 7
+audits 128 129 3
+zeros 8192";
+
+/// Version 2, with all flags and a contents log: a buffer of 24 bytes was written to and freed, and what it held was
+/// saved.
+pub const CONTENTS: &str = "text UMEMCORE
+u32 2 7 15 256 1 32 1 0 1 0 0 0 0 85
+u64 4
+u32 1 3 1
+zeros 8192
+classes 0 2 0 256
+classes 2 3 1 256
+classes 3 32 0 256
+u64 0x100000
+u32 2 0 0 84
+rising 1 85
+zeros 16
+u32 1 0 0
+zeros 360
+u32 0 0 3 0 0
+u64 3
+u32 0 24
+hex 4142ddba
+repeat 5 fecaddba
+free 0 85 24
+zeros 16";
+
+/// Version 2, with guards: an object of a declared cache with a constructor was written to and freed.
+pub const RETURNED: &str = "text UMEMCORE
+u32 2 4 15 256 1 33 1 0 0 0 0 0 0 102
+u64 5
+u32 1 0 0
+zeros 16
+u64 0x100000
+zeros 8168
+classes 0 32 0 256
+cache conn 16 8 1 165
+u64 0x100000
+u32 32 0 0 101
+rising 1 102
+zeros 256
+u32 1 0 0
+zeros 132
+free 0 102 16
+zeros 16";

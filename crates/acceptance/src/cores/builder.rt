@@ -1,8 +1,8 @@
 //! What each kind of line gives.
 
+use crate::cores::pieces::put_hex;
+use crate::cores::sample::core_bytes;
 use crate::fault::SampleFault;
-use crate::pieces::put_hex;
-use crate::sample::core_bytes;
 use std::test::Fail;
 
 // Lines, and the bytes that they give, in hexadecimal.
@@ -16,6 +16,10 @@ rising 255 257 : ff00000000010000
 cache conn 72 16 : 636f6e6e000000000000000000000000000000000000000000000000000000004800000010000000
 classes 2 3 9 : 756d656d5f616c6c6f635f3234000000000000000000000000000000000000001800000008000000\
 09000000
+caches 40 41 9 : 63616368655f3430000000000000000000000000000000000000000000000000\
+09000000
+slabs 2 3 7 85 : 0020100000000000\
+0700000000000000aa00000000000000
 free 1 2 8 : efbeaddeefbeaddecefaedfecefaedfe4000004000000000aef4eeb400000000
 audits 3 4 5 258 : 030000000000000001000000000000000200000005000000000000000201000000000000
 # words : ";
@@ -30,6 +34,8 @@ u32 4294967296
 u64 0x
 rising 1
 classes 31 33
+caches 1
+slabs 1 2 3
 free 0 1
 audits 0";
 

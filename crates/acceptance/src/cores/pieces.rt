@@ -3,7 +3,7 @@ ghost use Rattle.case_table.specs.declared.limits.TheConstants.{CLASS_COUNT};
 
 use crate::fault::SampleFault;
 use case_table::{CLASS_COUNT, bufctl_address, class_def};
-use umem_base::{read_decimal, read_hex};
+use umem_base::{ARENA_BASE, PAGE_BYTES, Text, put_decimal, read_decimal, read_hex};
 
 // What a cache's name takes, with the zeros behind it.
 const NAME_BYTES: usize = 32;
@@ -121,6 +121,42 @@ pub fn put_classes(out: &mut Vec<u8>, words: &str) -> Result<(), SampleFault> {
     for class in from..to {
         put_class(out, class)?;
         put_short(out, numbers)?;
+    }
+    Ok(())
+}
+
+/// Appends a declared cache that is named after its number.
+fn put_numbered(out: &mut Vec<u8>, cache: u32, numbers: &str) -> Result<(), SampleFault> {
+    let mut name = Text::from_slice(*out.allocator(), b"cache_")?;
+    put_decimal(&mut name, u64::from(cache), 0)?;
+    put_name(out, name.as_slice())?;
+    put_short(out, numbers)
+}
+
+pub fn put_caches(out: &mut Vec<u8>, words: &str) -> Result<(), SampleFault> {
+    let (from, to, numbers) = bounds(words)?;
+    for cache in from..to {
+        put_numbered(out, cache, numbers)?;
+    }
+    Ok(())
+}
+
+/// Appends the head of a slab of one page, whose chunks are all allocated.
+fn put_slab(out: &mut Vec<u8>, slab: u32, cache: u32, rounds: u32) -> Result<(), SampleFault> {
+    let base = ARENA_BASE + PAGE_BYTES * u64::from(slab);
+    out.extend_from_slice(&base.to_le_bytes())?;
+    for number in [cache, 0, slab.wrapping_mul(rounds), 0] {
+        out.extend_from_slice(&number.to_le_bytes())?;
+    }
+    Ok(())
+}
+
+pub fn put_slabs(out: &mut Vec<u8>, words: &str) -> Result<(), SampleFault> {
+    let (from, to, numbers) = bounds(words)?;
+    let (cache, rounds) = first(numbers);
+    let (cache, rounds) = (short(cache)?, short(rounds)?);
+    for slab in from..to {
+        put_slab(out, slab, cache, rounds)?;
     }
     Ok(())
 }

@@ -1,7 +1,7 @@
 //! Bytes with changes, and the words by which tables name those.
 
+use crate::cores::pieces::{number, put_hex};
 use crate::fault::SampleFault;
-use crate::pieces::{number, put_hex};
 
 /// The two sides of a row: what is changed, and what is told then.
 pub fn row(line: &str) -> Result<(&str, &str), SampleFault> {
