@@ -137,7 +137,7 @@ module _ (ledger : Ledger) (thread number : ℕ) (call : Call) (due : due_call l
     stand_handed new commits =
         books_after ledger thread number call due answer is.legal told new next (is_made ledger thread number call due new answer commits)
         (subst (λ (s : State). AreTablesOf (run_setting ledger) s next) (sym (asks.after answer)) (done.after (run_setting ledger) (run_state ledger) is.legal.plan.header is.are (can chunk free.0)))
-        (omega (arith, is.room, done.room))
+        (omega (arith, is.room, done.room)) is.grown
 
     pub gives_handed : (new : Ledger) → Commits ledger new thread [] answer → MakesWith ledger new thread number wanted answer
     gives_handed new commits = record {

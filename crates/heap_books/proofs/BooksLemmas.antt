@@ -34,6 +34,7 @@ use Rattle.heap_books.specs.Kinds.{is_plain_call}
 use Rattle.heap_books.specs.Slots.{HasSlotsOf, StoresSome}
 use Rattle.heap_books.specs.Tables.{AreOfHistory, AreTablesOf, IsKnown, Performs}
 use Rattle.heap_books.specs.Turns.{Makes}
+use Rattle.heap_books.proofs.NumberLemmas.{call_same}
 
 -- ---- slots
 
@@ -110,11 +111,18 @@ module _ (ledger : Ledger) (thread number : ℕ) (call : Call) (due : due_call l
     -- the tables of the state behind the call are those of the longer history
     pub books_after : (new : Ledger) (tables : Tables) → new ≡ after_commit ledger thread [] call answer
         → AreTablesOf (run_setting ledger) (after_call (run_setting ledger) (run_state ledger) thread call.op answer) tables
-        → call_count ledger.plan ≤ length (turns_made ledger.entries) + 1 + tables.live.spare → AreBooks new tables
-    books_after new tables made are room = subst (λ (l : Ledger). AreBooks l tables) (sym made) (record {
+        → call_count ledger.plan ≤ length (turns_made ledger.entries) + 1 + tables.live.spare → length (run_state ledger).grown ≤ length (turns_made ledger.entries) → AreBooks new tables
+    books_after new tables made are room few = subst (λ (l : Ledger). AreBooks l tables) (sym made) (record {
       legal = is_ledger;
       are = subst (λ (s : State). AreTablesOf (run_setting ledger) s tables) (sym (answers_step ledger thread call answer)) are;
       room = omega (arith, room, ap length (one_call ledger thread [] call answer tt), length-append (turns_made ledger.entries) (record { thread = thread; call = call } ∷ []));
+      grown = omega (
+        arith,
+        few,
+        ap length (ap (λ (s : State). s.grown) (answers_step ledger thread call answer) ∙ (call_same (run_setting ledger) (run_state ledger) thread call.op answer).grown),
+        ap length (one_call ledger thread [] call answer tt),
+        length-append (turns_made ledger.entries) (record { thread = thread; call = call } ∷ []),
+      );
     })
 
     -- what such a commit gives
@@ -158,7 +166,7 @@ module _ (ledger : Ledger) (thread number : ℕ) (call : Call) (due : due_call l
     pub stand : (new : Ledger) → Commits ledger new thread [] answer → AreBooks new next
     stand new commits =
         books_after ledger thread number call due answer is.legal told new next (is_made ledger thread number call due new answer commits)
-        (done.after (run_setting ledger) ledger.entries (of_run ledger tables is)) (omega (arith, is.room, done.room))
+        (done.after (run_setting ledger) ledger.entries (of_run ledger tables is)) (omega (arith, is.room, done.room)) is.grown
 
     pub gives : (kind : Op → Bool) (new : Ledger) → kind call.op ≡ true → Commits ledger new thread [] answer → Makes kind ledger new thread number answer
     gives kind new its commits =

@@ -9,9 +9,10 @@ use Rattle.script.specs.Rules.{IsHeader, IsOp}
 use Rattle.plain_heap.specs.declared.held.Held.{Held}
 use Rattle.plain_heap.specs.declared.reply.Reply.{Reply}
 use Rattle.plain_heap.specs.Answers.{IsLowestRequest}
+use Rattle.plain_heap.specs.Legal.{IsAllocFrom, IsAnsweredFrom}
 use Rattle.plain_heap.specs.Replies.{IsAllocReply, IsCacheReply, IsSomeReply}
 use Rattle.plain_heap.specs.Setting.{IsCache, Setting, cache_def_in}
-use Rattle.plain_heap.specs.State.{State, after_alloc, after_call, request_of}
+use Rattle.plain_heap.specs.State.{HeapSlab, State, after_alloc, after_call, request_of}
 use Rattle.heap_ledger.specs.Commits.{IsTidyReply}
 use Rattle.heap_memory.specs.Chunks.{IsRequested, kind_in}
 use Rattle.heap_books.specs.declared.chunk_request.ChunkRequest.{ChunkRequest}
@@ -23,6 +24,7 @@ pub record AsksOfCache (setting : Setting) (state : State) (thread : ℕ) (op : 
   pub is_cache : IsCache setting.header.caches request.cache
   pub requested : IsRequested (kind_in setting request.cache) request.size
   pub told : (answer : Reply) → IsCacheReply setting state request.cache answer → IsTidyReply setting state thread op answer
+  pub from : (slab : HeapSlab) (answer : Reply) → IsAnsweredFrom setting slab answer → IsAllocFrom setting slab op answer
   pub after : (answer : Reply) → after_call setting state thread op answer ≡ after_alloc setting state thread request.slot (held_by request) request.zero answer
 
 none_of_zero : (class : ℕ) → None ≡ Some class → ⊥
@@ -53,6 +55,7 @@ module _ (setting : Setting) (state : State) (thread : ℕ) (request : ChunkRequ
         is_cache = omega (arith, least.is_class);
         requested = record { class = λ _. found.1; declared = λ high. absurd (omega (arith, high, least.is_class)) };
         told = λ answer told. let parts = sized setting state size found.0 answer found.1 told in record { reply = parts.0; tidy = parts.1 };
+        from = λ slab answer told. told;
         after = λ answer. ap (λ (h : Held). after_alloc setting state thread slot h false answer) (class_held size found.0 found.1);
       })
   asks_of_cache (Zalloc slot size) its is =
@@ -63,6 +66,7 @@ module _ (setting : Setting) (state : State) (thread : ℕ) (request : ChunkRequ
         is_cache = omega (arith, least.is_class);
         requested = record { class = λ _. found.1; declared = λ high. absurd (omega (arith, high, least.is_class)) };
         told = λ answer told. let parts = sized setting state size found.0 answer found.1 told in record { reply = parts.0; tidy = parts.1 };
+        from = λ slab answer told. told;
         after = λ answer. ap (λ (h : Held). after_alloc setting state thread slot h true answer) (class_held size found.0 found.1);
       })
   asks_of_cache (CacheAlloc slot cache) its is =
@@ -72,6 +76,7 @@ module _ (setting : Setting) (state : State) (thread : ℕ) (request : ChunkRequ
         is_cache = its.1.1;
         requested = record { class = λ low. absurd (omega (arith, low, its.1.0)); declared = λ _. refl };
         told = λ answer told. record { reply = told; tidy = tt };
+        from = λ slab answer told. told;
         after = λ answer. refl;
       })
   asks_of_cache (Free slot size) its is = absurd (cc is)

@@ -10,6 +10,9 @@ pub mod NumberLemmas
 pub mod HandLemmas
 pub mod AllocLemmas
 pub mod CommitFreeLemmas
+pub mod GrowLemmas
+pub mod GrownLemmas
+pub mod LastLemmas
 pub mod PlacingLemmas
 pub mod PlacedLemmas
 pub mod PerformedLemmas

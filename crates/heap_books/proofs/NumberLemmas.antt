@@ -31,9 +31,9 @@ pub record AreCounted (setting : Setting) (slabs : List HeapSlab) (next : ℕ) :
 
 module _ (setting : Setting) (state : State) where
   -- the slabs are the same
-  record SameSlabs (next : State) : Type 0 where
-    slabs : next.slabs ≡ state.slabs
-    grown : next.grown ≡ state.grown
+  pub record SameSlabs (next : State) : Type 0 where
+    pub slabs : next.slabs ≡ state.slabs
+    pub grown : next.grown ≡ state.grown
 
   alloc_same : (thread slot : ℕ) (held : Held) (zeroed : Bool) (answer : Reply) → SameSlabs (after_alloc setting state thread slot held zeroed answer)
   alloc_same thread slot held zeroed (reply.At at found) = record { slabs = refl; grown = refl }
@@ -57,7 +57,7 @@ module _ (setting : Setting) (state : State) where
   word_same thread slot (reply.Word word) = record { slabs = refl; grown = refl }
   word_same thread slot answer = record { slabs = refl; grown = refl }
 
-  call_same : (thread : ℕ) (op : Op) (answer : Reply) → SameSlabs (after_call setting state thread op answer)
+  pub call_same : (thread : ℕ) (op : Op) (answer : Reply) → SameSlabs (after_call setting state thread op answer)
   call_same thread (Alloc slot size) answer = alloc_same thread slot _ false answer
   call_same thread (Zalloc slot size) answer = alloc_same thread slot _ true answer
   call_same thread (CacheAlloc slot cache) answer = alloc_same thread slot _ false answer
@@ -72,7 +72,7 @@ module _ (setting : Setting) (state : State) where
 
 -- ---- each step
 
-body_counted : (setting : Setting) (state : State) (thread : ℕ) (content : Body) → AreCounted setting state.slabs (next_chunk setting state)
+pub body_counted : (setting : Setting) (state : State) (thread : ℕ) (content : Body) → AreCounted setting state.slabs (next_chunk setting state)
     → AreCounted setting (after_body setting state thread content).slabs (next_chunk setting (after_body setting state thread content))
 body_counted setting state thread (body.Call op frames answer) is =
     let same = call_same setting state thread op answer in

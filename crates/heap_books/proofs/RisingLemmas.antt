@@ -1,19 +1,13 @@
 -- The chunks of the slabs that stand rise from slab to slab, and each is found where it begins.
-use Rattle.std.proofs.Common.{◌≡◌, ℕ, zero, suc, ◌+◌, ◌-◌, ◌*◌, ◌/◌, ◌<◌, ◌≤◌, Bool, true, false, cond, eqb, ltb, leb, List, [], ◌∷◌, ◌++◌, length, map, reverse, take, get_or, Option, Some, None, refl, sym, ap, ◌∙◌, subst, arith, inl, inr}
+use Rattle.std.proofs.Common.{◌≡◌, ℕ, ◌+◌, ◌-◌, ◌*◌, ◌/◌, ◌<◌, ◌≤◌, Bool, true, false, cond, List, [], ◌∷◌, Option, Some, None, refl, sym, ap, ◌∙◌, arith, inl, inr}
 use Rattle.std.specs.Prelude.{All, AllPairs, Contains, find, fold, sum_by}
-use Rattle.std.specs.List.{range_with_len}
-use Rattle.std.specs.Option.{option_map_or}
-use Rattle.std.proofs.lemmas.Bool.{and_parts, eq-eqb, eqb-true, false≢true, le-leb, leb-true, lt-ltb, ltb-true}
-use Rattle.std.proofs.lemmas.List.{reverse-append}
-use Rattle.std.proofs.lemmas.List.Elements.{All-append, All-cons, All-map, All-nil}
-use Rattle.std.proofs.lemmas.List.FromFn.{take-map-range_with_len}
+use Rattle.std.proofs.lemmas.Bool.{false≢true, le-leb, lt-ltb}
+use Rattle.std.proofs.lemmas.List.Elements.{All-cons}
 use Rattle.std.proofs.lemmas.List.Kept.{AllPairs-cons}
-use Rattle.std.proofs.lemmas.List.Sums.{fold-append, sum_by-cons}
-use Rattle.std.proofs.Math.Nat.{div-lt_iff_lt-mul, mul-div_cancel, mul-lt-mul_of_pos_right}
-use Rattle.umem_base.specs.Span.{span_end}
-use Rattle.umem_base.proofs.Lists.{Contains-here, Contains-there}
+use Rattle.std.proofs.lemmas.List.Sums.{sum_by-cons}
+use Rattle.std.proofs.Math.Nat.{mul-div_cancel, mul-lt-mul_of_pos_right}
 use Rattle.umem_base.proofs.OrderedLemmas.{AllPairs-left_out_by, All-left_out_by, Contains-cases, Contains-nil}
-use Rattle.case_table.specs.Geometry.{chunk_at, colour_of}
+use Rattle.case_table.specs.Geometry.{colour_of}
 use Rattle.script.specs.declared.operation.Op.{Op}
 use Rattle.script.specs.declared.operation.Op.TheVariants.{Alloc, Zalloc, Free, CacheAlloc, CacheFree, Copy, Clear, Store, Link, Load, Reap}
 use Rattle.script.specs.Rules.{IsHeader}
@@ -24,13 +18,9 @@ use Rattle.plain_heap.specs.declared.held.Held.{Held}
 use Rattle.plain_heap.specs.declared.reply.Reply.{Reply}
 use Rattle.plain_heap.specs.declared.reply.Reply.TheVariants as reply
 use Rattle.plain_heap.specs.Bytes.{is_within}
-use Rattle.plain_heap.specs.Laws.{StandApart}
 use Rattle.plain_heap.specs.Setting.{Setting, cache_def_in, geometry_in}
-use Rattle.plain_heap.specs.State.{HeapSlab, IsChunkOf, State, after_alloc, after_body, after_call, after_entry, after_free, after_link, after_store, after_word, begins_chunk, chunk_number, chunk_start, index_at, new_slab, request_from, request_of, slab_with_chunk, span_of_slab, start_state, state_of, word_of_slot}
-use Rattle.plain_heap.proofs.PairsLemmas.{AllPairs-append, AllPairs-map, pair_of}
-use Rattle.plain_heap.proofs.PlacesLemmas.{AreInPlace, chunk_in_slab, is_cache_of}
-use Rattle.plain_heap.proofs.SeparateLemmas.{history_in_place}
-use Rattle.plain_heap.proofs.SettingLemmas.{geometry_in-sound}
+use Rattle.plain_heap.specs.State.{HeapSlab, IsChunkOf, State, after_alloc, after_body, after_call, after_entry, after_free, after_link, after_store, after_word, begins_chunk, chunk_start, index_at, new_slab, request_from, request_of, slab_with_chunk, word_of_slot}
+use Rattle.plain_heap.proofs.PlacesLemmas.{AreInPlace}
 use Rattle.plain_heap.proofs.SlabOfChunk.{begins, begun, chunk_some, find_found, one_slab}
 
 -- ---- rising chunks

@@ -2,6 +2,7 @@ pub mod Allocs
 pub mod Books
 pub mod Entering
 pub mod Frees
+pub mod Grows
 pub mod Kinds
 pub mod Large
 pub mod Plain

@@ -1,5 +1,5 @@
 -- What commits give, and which entries they add.
-use Rattle.std.specs.Prelude.{◌≡◌, ◌≢◌, ℕ, Bool, [], Option, None, Some, if◌then◌else◌}
+use Rattle.std.specs.Prelude.{◌≡◌, ◌≢◌, ℕ, Bool, [], ◌∷◌, Option, None, Some, if◌then◌else◌}
 use Rattle.std.specs.Option.{option_and_then}
 use Rattle.script.specs.declared.operation.Op.{Op}
 use Rattle.script.specs.Plan.{Call}
@@ -8,17 +8,24 @@ use Rattle.plain_heap.specs.declared.reply.Reply.TheVariants.{Ok}
 use Rattle.plain_heap.specs.Calls.{due_call}
 use Rattle.plain_heap.specs.Laws.{IsAnsweredAt}
 use Rattle.heap_ledger.specs.Commits.{IsTidyReply}
-use Rattle.heap_ledger.specs.Ledger.{Ledger, after_commit, run_setting, run_state}
+use Rattle.heap_ledger.specs.Ledger.{Ledger, after_commit, grown as grown_entry, run_setting, run_state}
 use Rattle.heap_memory.specs.declared.chunk.Chunk.{Chunk}
+use Rattle.heap_slabs.specs.Chunks.{HasNoFreeChunk}
 use Rattle.heap_books.specs.declared.chunk_request.ChunkRequest.{ChunkRequest}
 use Rattle.heap_books.specs.declared.freed.Freed.{Freed}
 use Rattle.heap_books.specs.declared.freed.Freed.TheVariants as freed
+use Rattle.heap_books.specs.declared.fresh.Fresh.{Fresh}
+use Rattle.heap_books.specs.declared.grown.Grown.{Grown}
+use Rattle.heap_books.specs.declared.grown.Grown.TheVariants as grown
+use Rattle.heap_books.specs.declared.last.Last.{Last}
+use Rattle.heap_books.specs.declared.last.Last.TheVariants as last
 use Rattle.heap_books.specs.declared.tried.Tried.{Tried}
 use Rattle.heap_books.specs.declared.tried.Tried.TheVariants as tried
 use Rattle.heap_books.specs.declared.turn.Turn.{Turn}
 use Rattle.heap_books.specs.declared.turn.Turn.TheVariants.{Behind, Made}
 use Rattle.heap_books.specs.Allocs.{HasFreeNumber, HasNoFreeNumber}
 use Rattle.heap_books.specs.Frees.{IsRoundOf}
+use Rattle.heap_books.specs.Grows.{HasNoRunOf, IsFresh, IsLowestLeft, fresh_start, fresh_state, fresh_slab}
 use Rattle.heap_books.specs.Kinds.{chunk_request, is_free, is_chunk_call}
 
 -- the call of a thread of that number, if it is the thread's next one and of a kind
@@ -90,3 +97,61 @@ abbrev pub TakesRound : Ledger → Ledger → ℕ → ℕ → ℕ → Tried → 
 TakesRound old new thread number wanted tried.Behind = Waits is_chunk_call old new thread number
 TakesRound old new thread number wanted tried.Taken = IsTaken old new thread number wanted
 TakesRound old new thread number wanted (tried.Made answer) = MakesWith old new thread number wanted answer
+
+-- ---- allocations by a slab that is made for them
+
+-- an allocation from a cache was due, no run of pages is free for a slab of the cache, and nothing was made
+pub record HasNoRunFor (old new : Ledger) (thread number : ℕ) : Type 0 where
+  pub call : Call
+  pub due : due_of is_chunk_call old thread number ≡ Some call
+  pub request : ChunkRequest
+  pub asked : chunk_request (run_setting old) call.op ≡ Some request
+  pub none : HasNoRunOf request.cache (run_setting old) (run_state old)
+  pub same : new ≡ old
+
+-- such an allocation was due, and was answered with the first chunk of a slab that was made for it at the lowest run,
+-- as the state with that slab allows; the two entries stand behind the others
+pub record MakesGrown (old new : Ledger) (thread number : ℕ) (answer : Reply) (fresh : Fresh) : Type 0 where
+  pub call : Call
+  pub due : due_of is_chunk_call old thread number ≡ Some call
+  pub request : ChunkRequest
+  pub asked : chunk_request (run_setting old) call.op ≡ Some request
+  pub its : IsFresh request.cache fresh (run_setting old) (run_state old)
+  pub at : IsAnsweredAt answer (fresh_start request.cache fresh (run_setting old) (run_state old))
+  pub reply : IsTidyReply (run_setting old) (fresh_state request.cache fresh (run_setting old) (run_state old)) thread
+      call.op answer
+  pub made : new ≡ after_commit old thread (grown_entry (fresh_slab request.cache fresh) ∷ []) call answer
+
+-- what a commit of an allocation by a new slab gives
+abbrev pub TakesGrow : Ledger → Ledger → ℕ → ℕ → Grown → Type 0
+TakesGrow old new thread number grown.Behind = Waits is_chunk_call old new thread number
+TakesGrow old new thread number grown.NoRun = HasNoRunFor old new thread number
+TakesGrow old new thread number (grown.Made answer fresh) = MakesGrown old new thread number answer fresh
+
+-- ---- allocations by what is left
+
+-- such an allocation was due, and was answered with the free chunk that has the lowest number, or with no space, as the
+-- state before it allows
+pub record MakesLeft (old new : Ledger) (thread number : ℕ) (answer : Reply) : Type 0 where
+  pub call : Call
+  pub due : due_of is_chunk_call old thread number ≡ Some call
+  pub request : ChunkRequest
+  pub asked : chunk_request (run_setting old) call.op ≡ Some request
+  pub lowest : IsLowestLeft request.cache answer (run_setting old) (run_state old)
+  pub reply : IsTidyReply (run_setting old) (run_state old) thread call.op answer
+  pub made : new ≡ after_commit old thread [] call answer
+
+-- it was answered by a slab that was made for it, where each chunk of the cache lived
+pub record MakesGrownLast (old new : Ledger) (thread number : ℕ) (answer : Reply) (fresh : Fresh) : Type 0 where
+  pub call : Call
+  pub due : due_of is_chunk_call old thread number ≡ Some call
+  pub request : ChunkRequest
+  pub asked : chunk_request (run_setting old) call.op ≡ Some request
+  pub none : HasNoFreeChunk request.cache (run_setting old) (run_state old)
+  pub makes : MakesGrown old new thread number answer fresh
+
+-- what a commit of an allocation by what is left gives
+abbrev pub TakesLast : Ledger → Ledger → ℕ → ℕ → Last → Type 0
+TakesLast old new thread number last.Behind = Waits is_chunk_call old new thread number
+TakesLast old new thread number (last.Made answer None) = MakesLeft old new thread number answer
+TakesLast old new thread number (last.Made answer (Some fresh)) = MakesGrownLast old new thread number answer fresh

@@ -4,20 +4,23 @@ ghost use Rattle.script.specs.Rules.{IsPlan};
 ghost use Rattle.plain_heap.specs.Calls.{due_call};
 ghost use Rattle.heap_ledger.specs.Ledger.{IsLedger};
 ghost use Rattle.heap_books.specs.Kinds.{is_large, is_plain_call};
-ghost use Rattle.heap_books.specs.Turns.{TakesFree, TakesRound, TakesTurn};
+ghost use Rattle.heap_books.specs.Turns.{TakesFree, TakesGrow, TakesLast, TakesRound, TakesTurn};
 
 use crate::chunk_calls::{chunk_request, free_chunk, hand_chunk};
 use crate::freed::Freed;
 use crate::frees::free;
+use crate::grow_calls::{hand_fresh, refuse};
+use crate::grown::Grown;
 use crate::large_calls::large;
+use crate::last::Last;
 use crate::plain_calls::plain;
 use crate::tables::Tables;
 use crate::tried::Tried;
 use crate::turn::Turn;
-use heap_ledger::{Ledger, calls_of};
+use heap_ledger::{Ledger, SlabAt, calls_of};
 use heap_memory::Memory;
 use heap_slabs::HeapSlabs;
-use plain_heap::{History, Live};
+use plain_heap::{History, Live, Reply};
 use script::Script;
 use slab_layer::Round;
 use std::alloc::Global;
@@ -164,5 +167,68 @@ impl Books {
         let reply = hand_chunk(&mut self.tables, thread, request, chunk);
         self.ledger.commit(thread, reply);
         Tried::Made(reply)
+    }
+
+    /// Makes an allocation from a cache with the first chunk of a slab that is made for it, at the lowest run of pages
+    /// that fits, first fit by address, this project's own. All memory is taken before the entries are made.
+    pub fn commit_grow(&mut self, alloc: Global, thread: u32, call: u32) -> Result<Grown, NoMemory>
+        ensures ok { IfOk result (TakesGrow self.old self.new thread call) }
+        ensures err { OnErr result (self.new ≡ self.old) }
+    {
+        let Some(ready) = self.ledger.due(thread, call) else {
+            return Ok(Grown::Behind);
+        };
+        let Some(request) = chunk_request(&self.tables.slabs, ready.op()) else {
+            return Ok(Grown::Behind);
+        };
+        let Some((reply, fresh)) = hand_fresh(alloc, &mut self.tables, thread, request)? else {
+            return Ok(Grown::NoRun);
+        };
+        let slab = SlabAt {
+            cache: request.cache,
+            base: fresh.base,
+        };
+        self.ledger.commit_grown(thread, slab, reply);
+        Ok(Grown::Made { reply, fresh })
+    }
+
+    /// Makes an allocation from a cache with what is left of it: its free chunk that has the lowest number, this
+    /// project's own; else the first chunk of a slab that is made for it; else there is no space.
+    pub fn commit_last(&mut self, alloc: Global, thread: u32, call: u32) -> Result<Last, NoMemory>
+        ensures ok { IfOk result (TakesLast self.old self.new thread call) }
+        ensures err { OnErr result (self.new ≡ self.old) }
+    {
+        let Some(ready) = self.ledger.due(thread, call) else {
+            return Ok(Last::Behind);
+        };
+        let Some(request) = chunk_request(&self.tables.slabs, ready.op()) else {
+            return Ok(Last::Behind);
+        };
+        let lowest = self
+            .tables
+            .slabs
+            .lowest_free(request.cache, &self.tables.live);
+        if let Some(chunk) = lowest {
+            let reply = hand_chunk(&mut self.tables, thread, request, chunk);
+            self.ledger.commit(thread, reply);
+            return Ok(Last::Made { reply, fresh: None });
+        }
+        let Some((reply, fresh)) = hand_fresh(alloc, &mut self.tables, thread, request)? else {
+            refuse(&mut self.tables, thread, request.slot);
+            self.ledger.commit(thread, Reply::NoSpace);
+            return Ok(Last::Made {
+                reply: Reply::NoSpace,
+                fresh: None,
+            });
+        };
+        let slab = SlabAt {
+            cache: request.cache,
+            base: fresh.base,
+        };
+        self.ledger.commit_grown(thread, slab, reply);
+        Ok(Last::Made {
+            reply,
+            fresh: Some(fresh),
+        })
     }
 }

@@ -23,4 +23,5 @@ invariant_of-result c =
         slabs = subst (λ (g : Bool). let s : Setting = record { header = c.args.script.now.header; guards = g } in IsTableOf s start_state c.in_ok-slabs.slabs) c.has_guards.ensures c.in_ok-slabs.ensures.start;
       };
       room = omega (arith, c.in_ok-live.ensures.spare, c.calls_of.ensures.calls);
+      grown = omega arith;
     })
