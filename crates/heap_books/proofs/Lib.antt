@@ -10,6 +10,8 @@ pub mod NumberLemmas
 pub mod HandLemmas
 pub mod AllocLemmas
 pub mod CommitFreeLemmas
+pub mod CloseLemmas
+pub mod CommitReapLemmas
 pub mod GrowLemmas
 pub mod GrownLemmas
 pub mod LastLemmas

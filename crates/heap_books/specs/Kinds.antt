@@ -104,3 +104,19 @@ freed_slot Reap = None
 -- a buffer is given back
 abbrev pub is_free : Op → Bool
 is_free op = is_some (freed_slot op)
+
+-- ---- reaps
+
+-- it is a reap
+abbrev pub is_reap_call : Op → Bool
+is_reap_call (Alloc slot size) = false
+is_reap_call (Zalloc slot size) = false
+is_reap_call (Free slot size) = false
+is_reap_call (CacheAlloc slot cache) = false
+is_reap_call (CacheFree slot cache) = false
+is_reap_call (Copy to from) = false
+is_reap_call (Clear slot) = false
+is_reap_call (Store slot offset stored) = false
+is_reap_call (Link slot offset value) = false
+is_reap_call (Load to slot offset) = false
+is_reap_call Reap = true

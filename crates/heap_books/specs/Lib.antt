@@ -6,6 +6,7 @@ pub mod Grows
 pub mod Kinds
 pub mod Large
 pub mod Plain
+pub mod Reaps
 pub mod Slots
 pub mod Tables
 pub mod Turns

@@ -1,5 +1,5 @@
 -- What commits give, and which entries they add.
-use Rattle.std.specs.Prelude.{◌≡◌, ◌≢◌, ℕ, Bool, [], ◌∷◌, Option, None, Some, if◌then◌else◌}
+use Rattle.std.specs.Prelude.{◌≡◌, ◌≢◌, ℕ, Bool, List, [], ◌∷◌, Option, None, Some, if◌then◌else◌}
 use Rattle.std.specs.Option.{option_and_then}
 use Rattle.script.specs.declared.operation.Op.{Op}
 use Rattle.script.specs.Plan.{Call}
@@ -7,8 +7,9 @@ use Rattle.plain_heap.specs.declared.reply.Reply.{Reply}
 use Rattle.plain_heap.specs.declared.reply.Reply.TheVariants.{Ok}
 use Rattle.plain_heap.specs.Calls.{due_call}
 use Rattle.plain_heap.specs.Laws.{IsAnsweredAt}
-use Rattle.heap_ledger.specs.Commits.{IsTidyReply}
-use Rattle.heap_ledger.specs.Ledger.{Ledger, after_commit, grown as grown_entry, run_setting, run_state}
+use Rattle.heap_ledger.specs.declared.slab_at.SlabAt.{SlabAt}
+use Rattle.heap_ledger.specs.Commits.{AreReaped, IsTidyReply}
+use Rattle.heap_ledger.specs.Ledger.{Ledger, after_commit, grown as grown_entry, run_setting, run_state, shrunk}
 use Rattle.heap_memory.specs.declared.chunk.Chunk.{Chunk}
 use Rattle.heap_slabs.specs.Chunks.{HasNoFreeChunk}
 use Rattle.heap_books.specs.declared.chunk_request.ChunkRequest.{ChunkRequest}
@@ -26,7 +27,7 @@ use Rattle.heap_books.specs.declared.turn.Turn.TheVariants.{Behind, Made}
 use Rattle.heap_books.specs.Allocs.{HasFreeNumber, HasNoFreeNumber}
 use Rattle.heap_books.specs.Frees.{IsRoundOf}
 use Rattle.heap_books.specs.Grows.{HasNoRunOf, IsFresh, IsLowestLeft, fresh_start, fresh_state, fresh_slab}
-use Rattle.heap_books.specs.Kinds.{chunk_request, is_free, is_chunk_call}
+use Rattle.heap_books.specs.Kinds.{chunk_request, is_free, is_chunk_call, is_reap_call}
 
 -- the call of a thread of that number, if it is the thread's next one and of a kind
 abbrev pub due_of : (Op → Bool) → Ledger → ℕ → ℕ → Option Call
@@ -155,3 +156,20 @@ abbrev pub TakesLast : Ledger → Ledger → ℕ → ℕ → Last → Type 0
 TakesLast old new thread number last.Behind = Waits is_chunk_call old new thread number
 TakesLast old new thread number (last.Made answer None) = MakesLeft old new thread number answer
 TakesLast old new thread number (last.Made answer (Some fresh)) = MakesGrownLast old new thread number answer fresh
+
+-- ---- reaps
+
+-- a reap was due, and was answered with ok; exactly the slabs of which no chunk lived were given back, by cache and
+-- then by base, and an entry for each stands in this order directly before its own, behind the others
+pub record MakesReap (old new : Ledger) (thread number : ℕ) (answer : Reply) : Type 0 where
+  pub call : Call
+  pub due : due_of is_reap_call old thread number ≡ Some call
+  pub slabs : List SlabAt
+  pub reaped : AreReaped (run_setting old) (run_state old) slabs
+  pub ok : answer ≡ Ok
+  pub made : new ≡ after_commit old thread (shrunk slabs) call Ok
+
+-- what a commit of a reap gives
+abbrev pub TakesReap : Ledger → Ledger → ℕ → ℕ → Turn → Type 0
+TakesReap old new thread number Behind = Waits is_reap_call old new thread number
+TakesReap old new thread number (Made answer) = MakesReap old new thread number answer

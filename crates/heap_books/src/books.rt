@@ -4,7 +4,7 @@ ghost use Rattle.script.specs.Rules.{IsPlan};
 ghost use Rattle.plain_heap.specs.Calls.{due_call};
 ghost use Rattle.heap_ledger.specs.Ledger.{IsLedger};
 ghost use Rattle.heap_books.specs.Kinds.{is_large, is_plain_call};
-ghost use Rattle.heap_books.specs.Turns.{TakesFree, TakesGrow, TakesLast, TakesRound, TakesTurn};
+ghost use Rattle.heap_books.specs.Turns.{TakesFree, TakesGrow, TakesLast, TakesReap, TakesRound, TakesTurn};
 
 use crate::chunk_calls::{chunk_request, free_chunk, hand_chunk};
 use crate::freed::Freed;
@@ -14,6 +14,7 @@ use crate::grown::Grown;
 use crate::large_calls::large;
 use crate::last::Last;
 use crate::plain_calls::plain;
+use crate::reap_calls::{is_reap, reap};
 use crate::tables::Tables;
 use crate::tried::Tried;
 use crate::turn::Turn;
@@ -230,5 +231,22 @@ impl Books {
             reply,
             fresh: Some(fresh),
         })
+    }
+
+    /// Makes a reap: the slabs of which no chunk lives are given back, by cache and then by base, which is this
+    /// project's own. It takes no memory.
+    pub fn commit_reap(&mut self, thread: u32, call: u32) -> Turn
+        ensures { TakesReap self.old self.new thread call result }
+    {
+        let Some(ready) = self.ledger.due(thread, call) else {
+            return Turn::Behind;
+        };
+        if !is_reap(ready.op()) {
+            return Turn::Behind;
+        }
+        reap(&mut self.tables);
+        self.ledger
+            .commit_shrunk(thread, self.tables.slabs.reaped(), Reply::Ok);
+        Turn::Made(Reply::Ok)
     }
 }

@@ -16,6 +16,7 @@ mod large_request;
 mod last;
 pub mod laws;
 mod plain_calls;
+mod reap_calls;
 mod tables;
 mod tried;
 mod turn;
