@@ -1,6 +1,6 @@
--- Lists that several crates speak of: what stands in one, one item more, what is left behind a place, and the first
--- place that passes a test.
-use Rattle.std.proofs.Common.{◌≡◌, ℕ, zero, suc, ◌+◌, ◌-◌, ◌<◌, ◌≤◌, Bool, true, false, cond, List, [], ◌∷◌, length, get_or, take, drop, length-drop, Some, None, refl, arith, inl, inr}
+-- Lists that several crates speak of: what stands in one, one item more or another one, what is left behind a place,
+-- and the first place that passes a test.
+use Rattle.std.proofs.Common.{◌≡◌, ◌≢◌, ℕ, zero, suc, ◌+◌, ◌-◌, ◌<◌, ◌≤◌, Bool, true, false, cond, List, [], ◌∷◌, length, get_or, set, map, take, drop, length-drop, Some, None, refl, ap, arith, inl, inr}
 use Rattle.std.specs.Prelude.{AllPairs, Contains, insert, not, nat_lt, position}
 use Rattle.std.specs.List.{position_or_len}
 use Rattle.std.proofs.lemmas.Bool.{cases_order, ltb-false}
@@ -55,3 +55,20 @@ position-None p xs d h k lt = none_before_len p xs d (far (nat_lt (position_or_l
     far : (b : Bool) → nat_lt (position_or_len p xs) (length xs) ≡ b → cond b (Some (position_or_len p xs)) None ≡ None → length xs ≤ position_or_len p xs
     far true e h = absurd (cc h)
     far false e h = omega (arith, ltb-false _ _ e)
+
+-- a function that changes no item
+pub map_none : {X : Type 0} (f : X → X) (xs : List X) → ((k : ℕ) (d : X) → k < length xs → f (get_or xs k d) ≡ get_or xs k d) → map f xs ≡ xs
+map_none f [] same = refl
+map_none {X} f (x ∷ xs) same =
+    let here : f x ≡ x = same 0 x (omega arith) in
+    rw here (ap (λ (ys : List X). x ∷ ys) (map_none f xs (λ k d lt. same (suc k) d (omega arith))))
+
+-- a function that changes one item alone
+pub map_one : {X : Type 0} (f : X → X) (xs : List X) (i : ℕ) (y : X) → i < length xs → ((d : X) → f (get_or xs i d) ≡ y) → ((k : ℕ) (d : X) → k < length xs → k ≢ i → f (get_or xs k d) ≡ get_or xs k d) → map f xs ≡ set xs i y
+map_one f [] i y lt changed others = absurd (omega arith)
+map_one f (x ∷ xs) zero y lt changed others =
+    let here : f x ≡ y = changed x in
+    rw (here, map_none f xs (λ k d less. others (suc k) d (omega arith) (λ e. omega arith))) refl
+map_one {X} f (x ∷ xs) (suc i) y lt changed others =
+    let here : f x ≡ x = others 0 x (omega arith) (λ e. omega arith) in
+    rw here (ap (λ (ys : List X). x ∷ ys) (map_one f xs i y (omega arith) changed (λ k d less ne. others (suc k) d (omega arith) (λ e. ne (omega arith)))))

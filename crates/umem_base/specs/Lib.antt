@@ -1,4 +1,5 @@
 pub mod BoundedVec
+pub mod Constants
 pub mod Cut
 pub mod Disk
 pub mod FaultPlan

@@ -6,6 +6,7 @@ mod arena;
 mod bad_number;
 mod bounded_vec;
 mod cut;
+pub mod laws;
 mod lines;
 mod memory;
 mod no_memory;
