@@ -5,3 +5,4 @@ pub mod Cases
 pub mod Geometry
 pub mod Record
 pub mod Sizes
+pub mod Constants

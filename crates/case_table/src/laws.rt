@@ -5,6 +5,7 @@ ghost use Rattle.case_table.specs.declared.rule.Rule.{Rule};
 ghost use Rattle.case_table.specs.Addresses.{bufctl_address, bufctl_chunk, cache_address, cache_at};
 ghost use Rattle.case_table.specs.CacheName.{class_name, is_cache_name, is_reserved_name};
 ghost use Rattle.case_table.specs.Cases.{IsFirstHit};
+ghost use Rattle.case_table.specs.Constants.{AreBasesOfAddresses, AreLimitsOfCaches, AreNumbersOfSlabs};
 ghost use Rattle.case_table.specs.Geometry.{IsCacheShape, IsSlabGeometry, KeepsChunksApart, content_of, geometry_of};
 ghost use Rattle.case_table.specs.Record.{Fit, StandAt, numbers_at, spelling};
 ghost use Rattle.case_table.specs.Sizes.{IsLeastClass, class_for, class_sizes, size_of};
@@ -128,4 +129,12 @@ pub fn geometries_are_sound()
 pub fn chunks_stand_in_their_slab()
     ensures { (size align : ℕ) (guards : Bool) (made : ℕ) → IsCacheShape size align
         → KeepsChunksApart align made (geometry_of size align guards) }
+{}
+
+/// The limits of caches, how a slab is cut, and where caches and bufctls have their addresses, as numbers: code and
+/// definitions share the constants, so nothing else here would refuse another value.
+pub fn caches_have_their_numbers()
+    ensures limits { AreLimitsOfCaches }
+    ensures slabs { AreNumbersOfSlabs }
+    ensures addresses { AreBasesOfAddresses }
 {}
