@@ -1,7 +1,7 @@
 -- What every text of options gives, whatever its bytes.
 use Rattle.std.specs.Prelude.{◌≡◌, ◌*◌, ◌<◌, ◌≤◌, IsTrue}
 use Rattle.umem_options.specs.declared.flags.TheConstants.DebugFlags.{AUDIT, CONTENTS, GUARDS}
-use Rattle.umem_options.specs.declared.limits.TheConstants.{DEFAULT_CONTENTS, DEFAULT_FRAMES, DEFAULT_LOG_BYTES, FAIL_BYTES, FRAME_BYTES, MOST_CONTENTS, MOST_FRAMES, MOST_LOG_BYTES, SAVED_BYTES, TRANSACTION_BYTES}
+use Rattle.umem_options.specs.declared.limits.TheConstants.{DEFAULT_CONTENTS, DEFAULT_FRAMES, DEFAULT_LOG_BYTES, FAIL_BYTES, FRAME_BYTES, MOST_CONTENTS, MOST_FAILS, MOST_FRAMES, MOST_LOG_BYTES, MOST_SAVED, MOST_TRANSACTIONS, SAVED_BYTES, TRANSACTION_BYTES}
 use Rattle.umem_options.specs.declared.options.Options.{Options}
 use Rattle.umem_options.specs.declared.options.Logging.{Logging}
 use Rattle.umem_options.specs.Flags.{bits_of, has_audit, has_guards}
@@ -34,3 +34,6 @@ pub record AreNumbersOfOptions : Type 0 where
   pub frame : FRAME_BYTES ≡ 8
   pub fail : FAIL_BYTES ≡ 24
   pub saved : SAVED_BYTES ≡ 24
+  pub most_transactions : MOST_TRANSACTIONS ≡ 1048576
+  pub most_fails : MOST_FAILS ≡ 2796202
+  pub most_saved : MOST_SAVED ≡ 2796202
