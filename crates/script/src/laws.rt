@@ -3,6 +3,7 @@
 ghost use Rattle.std.specs.Prelude.{◌≡◌, ℕ, List, [], ◌∷◌};
 ghost use Rattle.script.specs.Generated.{draws};
 ghost use Rattle.script.specs.Grammar.{script_of};
+ghost use Rattle.script.specs.Limits.{AreNumbersOfScripts};
 ghost use Rattle.script.specs.Plan.{Plan};
 ghost use Rattle.script.specs.PlanText.{HasAllCaches, HasShortText, text_of};
 ghost use Rattle.script.specs.Rules.{IsPlan};
@@ -29,4 +30,10 @@ pub fn plans_have_their_caches()
 pub fn draws_have_their_numbers()
     ensures from_0 { draws 0 3 ≡ 167951807 ∷ 218396424 ∷ 1299921937 ∷ [] }
     ensures from_1 { draws 1 1 ≡ 908834774 ∷ [] }
+{}
+
+/// The limits of scripts, and how many slots and sizes the generator draws from, as numbers: code and definitions
+/// share the constants, so nothing else here would refuse another value.
+pub fn scripts_have_their_numbers()
+    ensures { AreNumbersOfScripts }
 {}
