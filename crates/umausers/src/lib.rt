@@ -5,6 +5,7 @@
 mod audits;
 mod collect;
 mod group;
+pub mod laws;
 mod order;
 mod sum;
 mod tally;
