@@ -12,11 +12,11 @@ use Rattle.std.proofs.lemmas.List.Kept.{AllPairs-filter}
 use Rattle.std.proofs.lemmas.List.Quantifiers.{all_pairs_remove}
 use Rattle.std.proofs.lemmas.List.Sorted.{Contains-permutation, IsPermutation-append_comm, IsPermutation-append_left, IsPermutation-append_right, IsPermutation-middle, IsPermutation-refl, IsPermutation-sym, IsPermutation-trans}
 use Rattle.umem_base.specs.Ordered.{SplitsBy, left_out_by, put_by}
-use Rattle.umem_base.proofs.Lists.{AllPairs-insert, Contains-here}
+use Rattle.umem_base.proofs.Lists.{AllPairs-insert, Contains-here, map_one}
 use Rattle.umem_base.proofs.OrderedLemmas.{Contains-cases, IsPermutation-put_by, filter_all, index_of_key, insert-put_by, remove-left_out_by_own}
 use Rattle.slab_layer.specs.Slab.{HasChunk, IsApartBelow, IsComplete, IsSlab, Slab, clashes, has_chunk, is_complete, with_chunk, without_chunk}
 use Rattle.slab_layer.specs.Slabs.{AreMissing, AreSlabs, HasChunkAt, HasLowestComplete, IsForeign, IsLowestRound, IsMissing, KeepsRounds, Slabs, after_put, after_puts, is_missing, listed_rounds, with_round, with_slab, without_clashes, without_complete, without_round, without_slab_at}
-use Rattle.slab_layer.proofs.Lists.{filter-filter, map_one, put_by-last, same_part-set}
+use Rattle.slab_layer.proofs.Lists.{filter-filter, put_by-last, same_part-set}
 use Rattle.slab_layer.proofs.RoundsLemmas.{All-from_rises, Rises, Rises-append, Rises-lower, increasing_from_Rises, left_out_by-absent, left_out_by-first}
 use Rattle.slab_layer.proofs.SlabLemmas.{Ends-list, HasChunk-from_test, HasChunk-with_chunk, IsSlab-put_by, Rises-list, decides_complete, has_chunk-false, has_chunk-true, with_chunk-foreign, with_chunk-own}
 
