@@ -16,3 +16,4 @@ pub mod PlacesLemmas
 pub mod RunsLemmas
 pub mod StepsLemmas
 pub mod SeparateLemmas
+pub mod RisingLemmas

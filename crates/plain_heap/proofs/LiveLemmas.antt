@@ -1,6 +1,6 @@
 -- A hash map of buffers as a finite map, and when it tells what a history left.
 use Rattle.std.proofs.Common.{◌≡◌, ℕ, Bool, true, false, cond, eqb, List, [], ◌∷◌, Option, Some, None, refl, sym, ap, subst, ◌∙◌, arith}
-use Rattle.std.specs.Prelude.{nat_eq, not, ◌||◌, find, option_map, IsSome, is_some}
+use Rattle.std.specs.Prelude.{Contains, nat_eq, not, ◌||◌, find, option_map, IsSome, is_some}
 use Rattle.std.specs.Ordering.{nat_cmp, is_eq}
 use Rattle.std.specs.Map.{lookup}
 use Rattle.std.specs.FinMap.{empty, find as find_entry, get, get-empty, insert, from_entries, get-from_entries, get-insert, same_map}
@@ -9,6 +9,7 @@ use Rattle.std.proofs.lemmas.Map.Lookups.{exact_unsigned}
 use Rattle.std.proofs.lemmas.Bool.{eqb-true, eqb-false, false≢true}
 use Rattle.std.proofs.lemmas.Bool.Decides.{nat_tests}
 use Rattle.umem_base.specs.Ordered.{left_out_by}
+use Rattle.umem_base.proofs.Lists.{Contains-here, Contains-there}
 use Rattle.plain_heap.specs.declared.held.Held.{Held}
 use Rattle.plain_heap.specs.declared.reply.Reply.{Reply}
 use Rattle.plain_heap.specs.Live.{HeldByAddress, TellsLive, live_at, live_in}
@@ -160,3 +161,17 @@ tells_start = record {
   live = λ q. ap live_in (get-empty nat_cmp q);
   given = λ q. ap is_some (get-empty nat_cmp q);
 }
+
+-- the buffer that is found at an address lives
+pub held_lives : (live : List LiveBuffer) (at : ℕ) (held : Held) → held_at live at ≡ Some held → Contains live (record { address = at; held = held })
+held_lives [] at held h = absurd (cc h)
+held_lives (first ∷ live) at held h = go (eqb first.address at) refl h (λ later. held_lives live at held later)
+  where
+    go : (b : Bool) → eqb first.address at ≡ b → option_map (λ (buffer : LiveBuffer). buffer.held) (cond b (Some first) (find (λ buffer. eqb buffer.address at) live)) ≡ Some held
+        → (held_at live at ≡ Some held → Contains live (record { address = at; held = held })) → Contains (first ∷ live) (record { address = at; held = held })
+    go true is there rest =
+        let here : first.held ≡ held = cc in
+        let same : first.address ≡ at = eqb-true first.address at is in
+        let whole : first ≡ record { address = at; held = held } = grind arith in
+        subst (λ (b : LiveBuffer). Contains (first ∷ live) b) whole (Contains-here first live)
+    go false is there rest = Contains-there first (record { address = at; held = held }) live (rest there)
