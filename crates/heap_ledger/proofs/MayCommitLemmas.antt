@@ -233,12 +233,13 @@ in_use_or_not setting state slab = elim (search_below (geometry_in setting slab.
           | inr isnt ↦ below index (omega (arith, isnt.1))
         ]
 
-shrinks_live : (state : State) (slabs : List SlabAt) → (after_shrinks state slabs).live ≡ state.live
+-- shrinks leave the live buffers
+pub shrinks_live : (state : State) (slabs : List SlabAt) → (after_shrinks state slabs).live ≡ state.live
 shrinks_live state [] = refl
 shrinks_live state (slab ∷ slabs) = shrinks_live (after_shrink state slab.base) slabs
 
 -- what stands after shrinks stood before, at another base than each of them
-stood : (state : State) (slabs : List SlabAt) (slab : HeapSlab) → Contains (after_shrinks state slabs).slabs slab → Contains state.slabs slab × ((one : SlabAt) → Contains slabs one → slab.base ≢ one.base)
+pub stood : (state : State) (slabs : List SlabAt) (slab : HeapSlab) → Contains (after_shrinks state slabs).slabs slab → Contains state.slabs slab × ((one : SlabAt) → Contains slabs one → slab.base ≢ one.base)
 stood state [] slab there = (there, λ one in_none. Contains-nil one in_none)
 stood state (first ∷ slabs) slab there =
     let before = stood (after_shrink state first.base) slabs slab there in
