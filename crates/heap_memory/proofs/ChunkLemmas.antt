@@ -317,6 +317,12 @@ large_bytes setting state at size header separate lives a =
 
 -- ---- what a chunk's bytes tell
 
+pub bytes_told : (setting : Setting) (state : State) (memory : Memory) (address count : ℕ) (bytes : List ℕ)
+    → IsMemoryOf setting state memory → AreBytesAt memory.space address count bytes → bytes ≡ bytes_from state.bytes address count
+bytes_told setting state memory address count bytes is there =
+    fill_by_all (λ k. state.bytes (address + k)) bytes count 0 there.0
+    (λ k lt. sym (bytes_there setting state memory is address count (slice_index bytes) there.1 k lt))
+
 pub finding_told : (setting : Setting) (state : State) (memory : Memory) (kind : ChunkKind) (chunk : Chunk) (as_one : ChunkState) (shape : Shape) (bytes : List ℕ)
     → IsMemoryOf setting state memory → IsChunkAt kind chunk setting state → kind.guards ≡ true → shape ≡ shape_of_kind kind chunk.number
     → AreBytesAt memory.space chunk.address (shape.content + TAG_BYTES) bytes → finding bytes shape as_one ≡ finding_at setting state chunk.address as_one
@@ -326,9 +332,7 @@ finding_told setting state memory kind chunk as_one shape bytes is at guards is_
     ap (λ (cache : ℕ). shape_in setting cache (chunk_number setting at.slab chunk.address)) at.its_cache
     ∙ ap (λ (number : ℕ). shape_in setting kind.cache number) (sym at.its_number)
     ∙ ap (λ (k : ChunkKind). shape_of_kind k chunk.number) (sym at.its_kind) ∙ sym is_shape in
-    let same : bytes ≡ bytes_from state.bytes chunk.address (shape.content + TAG_BYTES) =
-    fill_by_all (λ k. state.bytes (chunk.address + k)) bytes (shape.content + TAG_BYTES) 0 there.0
-    (λ k lt. sym (bytes_there setting state memory is chunk.address (shape.content + TAG_BYTES) (slice_index bytes) there.1 k lt)) in
+    let same = bytes_told setting state memory chunk.address (shape.content + TAG_BYTES) bytes is there in
     sym (
     ap (λ (b : Bool). cond b (option_and_then (finding_of_chunk setting state chunk.address as_one) (slab_with_chunk setting state.slabs chunk.address)) None) on
     ∙ ap (λ (found : Option HeapSlab). option_and_then (finding_of_chunk setting state chunk.address as_one) found) at.found

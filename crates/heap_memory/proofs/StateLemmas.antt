@@ -18,6 +18,7 @@ use Rattle.plain_heap.specs.declared.held.Held.{Held}
 use Rattle.plain_heap.specs.Laws.{AreSeparate, StandApart, large}
 use Rattle.plain_heap.specs.Setting.{Setting, geometry_in}
 use Rattle.plain_heap.specs.State.{HeapSlab, LiveBuffer, State, after_grow, after_shrink, give_back, hand_out, held_at, span_of_large, span_of_slab, spans_of}
+use Rattle.plain_heap.proofs.LiveLemmas.{held_lives}
 use Rattle.plain_heap.proofs.PairsLemmas.{Contains-passing, Contains-seen, pair_of}
 use Rattle.plain_heap.proofs.PlacesLemmas.{apart_bases, is_large}
 
@@ -87,20 +88,6 @@ large_from live span h =
     let seen = seen_from span_of_large (filter is_large live) span h in
     let passed = passing_from is_large live seen.0 seen.1 in
     (seen.0, passed.0, passed.1, seen.2)
-
--- the buffer that is found at an address lives
-pub held_lives : (live : List LiveBuffer) (at : ℕ) (held : Held) → held_at live at ≡ Some held → Contains live (record { address = at; held = held })
-held_lives [] at held h = absurd (cc h)
-held_lives (first ∷ live) at held h = go (eqb first.address at) refl h (λ later. held_lives live at held later)
-  where
-    go : (b : Bool) → eqb first.address at ≡ b → option_map (λ (buffer : LiveBuffer). buffer.held) (cond b (Some first) (find (λ buffer. eqb buffer.address at) live)) ≡ Some held
-        → (held_at live at ≡ Some held → Contains live (record { address = at; held = held })) → Contains (first ∷ live) (record { address = at; held = held })
-    go true is there rest =
-        let here : first.held ≡ held = cc in
-        let same : first.address ≡ at = eqb-true first.address at is in
-        let whole : first ≡ record { address = at; held = held } = grind arith in
-        subst (λ (b : LiveBuffer). Contains (first ∷ live) b) whole (Contains-here first live)
-    go false is there rest = Contains-there first (record { address = at; held = held }) live (rest there)
 
 -- ---- runs that come
 

@@ -4,10 +4,11 @@ ghost use Rattle.umem_base.specs.Pages.{pages_for};
 ghost use Rattle.script.specs.Rules.{IsHeader};
 ghost use Rattle.case_table.specs.Geometry.{IsAlign};
 ghost use Rattle.plain_heap.specs.Laws.{AreSeparate};
+ghost use Rattle.plain_heap.specs.Bytes.{bytes_from};
 ghost use Rattle.plain_heap.specs.Replies.{finding_at, load_answer, report_at, store_answer};
 ghost use Rattle.plain_heap.specs.Setting.{geometry_in};
 ghost use Rattle.plain_heap.specs.State.{after_link, after_shrink, after_store, give_back, hand_out, start_state, with_slot, word_of_slot};
-ghost use Rattle.heap_memory.specs.Chunks.{HasNumbers, HoldsChunk, IsChunkAt, IsKind, IsNextSlab, IsRequested};
+ghost use Rattle.heap_memory.specs.Chunks.{HasNumbers, HoldsChunk, IsChunkAt, IsKind, IsNextSlab, IsRequested, bytes_of_kind};
 ghost use Rattle.heap_memory.specs.Memory.{IsMemory, IsMemoryOf};
 ghost use Rattle.heap_memory.specs.Pages.{Closes, HasSameSpans, HasSlot, HasSpan, OpensLowest};
 ghost use Rattle.heap_memory.specs.States.{Becomes, BecomesIf, ForEachState, HasSlabAt, IsLargeAt, IsLowestOrNone, Keeps, after_large, after_slab};
@@ -217,6 +218,19 @@ impl Memory {
             unreachable!();
         };
         first_broken(bytes, &shape, state)
+    }
+
+    /// The bytes of a chunk, with its tag where there are guards.
+    pub fn chunk_bytes(&self, chunk: Chunk, kind: &ChunkKind) -> &[u8]
+        requires kind { IsKind kind.now }
+        requires inside { HoldsChunk self.now kind.now chunk }
+        ensures { ForEachState (λ setting heap.
+            result.now ≡ bytes_from heap.bytes chunk.address (bytes_of_kind kind.now)) self.now }
+    {
+        match self.space.bytes_of(chunk.address, bytes_of_kind(kind)) {
+            Some(bytes) => bytes,
+            None => unreachable!(),
+        }
     }
 
     /// Hands a chunk out for a request of so many bytes, zeroed where that is wanted, and reports what its bytes told
