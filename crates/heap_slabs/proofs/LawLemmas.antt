@@ -19,6 +19,7 @@ use Rattle.plain_heap.specs.declared.held.Held.{Held}
 use Rattle.plain_heap.specs.Laws.{AreSeparate, LiesInPlace, StandApart, large}
 use Rattle.plain_heap.specs.Setting.{Setting, cache_def_in, geometry_in}
 use Rattle.plain_heap.specs.State.{HeapSlab, IsFreePage, LiveBuffer, State, begins_chunk, chunk_number, chunk_start, give_back, hand_out, held_at, is_in_span, is_live, is_taken, new_slab, slab_with_chunk, span_of_large, span_of_slab, spans_of}
+use Rattle.plain_heap.proofs.LiveLemmas.{held_lives}
 use Rattle.plain_heap.proofs.PairsLemmas.{Contains-passing, Contains-seen}
 use Rattle.heap_memory.specs.declared.chunk.Chunk.{Chunk}
 use Rattle.heap_slabs.specs.declared.placed.Placed.{Placed}
@@ -98,20 +99,6 @@ large_leaves table size base zeroed setting state header is separate some free =
     live_first (record { address = base; held = large size }) state.live (chunk_start setting h index)
     ∙ ap (λ (b : Bool). cond b true (is_live state (chunk_start setting h index))) (ne_eqb base (chunk_start setting h index) (λ e.
     not_in_slab setting state separate base (pages_for size) free h base stands (omega arith) (omega arith) (omega (arith, lies.0, e)) (omega (arith, lies.1, e)))))
-
--- the buffer that is found at an address lives
-held_lives : (live : List LiveBuffer) (at : ℕ) (held : Held) → held_at live at ≡ Some held → Contains live (record { address = at; held = held })
-held_lives [] at held h = absurd (cc h)
-held_lives (first ∷ live) at held h = go (eqb first.address at) refl h (λ later. held_lives live at held later)
-  where
-    go : (b : Bool) → eqb first.address at ≡ b → option_map (λ (buffer : LiveBuffer). buffer.held) (cond b (Some first) (find (λ buffer. eqb buffer.address at) live)) ≡ Some held
-        → (held_at live at ≡ Some held → Contains live (record { address = at; held = held })) → Contains (first ∷ live) (record { address = at; held = held })
-    go true is there rest =
-        let here : first.held ≡ held = cc in
-        let same : first.address ≡ at = eqb-true first.address at is in
-        let whole : first ≡ record { address = at; held = held } = grind arith in
-        subst (λ (b : LiveBuffer). Contains (first ∷ live) b) whole (Contains-here first live)
-    go false is there rest = Contains-there first (record { address = at; held = held }) live (rest there)
 
 -- of two joined lists each item of the first stands in the relation to each of the second
 pair_across : {X : Type 0} (R : X → X → Type 0) (xs ys : List X) (x y : X) → AllPairs R (xs ++ ys) → Contains xs x → Contains ys y → R x y

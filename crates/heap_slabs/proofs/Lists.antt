@@ -31,22 +31,6 @@ seen_alike f xs ys y more h =
     let found = seen_from f xs y h in
     subst (Contains (map f ys)) found.2 (Contains-seen f ys found.0 (more found.0 found.1))
 
-pub map_none : {X : Type 0} (f : X → X) (xs : List X) → ((k : ℕ) (d : X) → k < length xs → f (get_or xs k d) ≡ get_or xs k d) → map f xs ≡ xs
-map_none f [] same = refl
-map_none {X} f (x ∷ xs) same =
-    let here : f x ≡ x = same 0 x (omega arith) in
-    rw here (ap (λ (ys : List X). x ∷ ys) (map_none f xs (λ k d lt. same (suc k) d (omega arith))))
-
--- a function that changes one item alone
-pub map_one : {X : Type 0} (f : X → X) (xs : List X) (i : ℕ) (y : X) → i < length xs → ((d : X) → f (get_or xs i d) ≡ y) → ((k : ℕ) (d : X) → k < length xs → k ≢ i → f (get_or xs k d) ≡ get_or xs k d) → map f xs ≡ set xs i y
-map_one f [] i y lt changed others = absurd (omega arith)
-map_one f (x ∷ xs) zero y lt changed others =
-    let here : f x ≡ y = changed x in
-    rw (here, map_none f xs (λ k d less. others (suc k) d (omega arith) (λ e. omega arith))) refl
-map_one {X} f (x ∷ xs) (suc i) y lt changed others =
-    let here : f x ≡ x = others 0 x (omega arith) (λ e. omega arith) in
-    rw here (ap (λ (ys : List X). x ∷ ys) (map_one f xs i y (omega arith) changed (λ k d less ne. others (suc k) d (omega arith) (λ e. ne (omega arith)))))
-
 -- ---- what is looked through
 
 -- what is kept by a test stood there and passes it

@@ -15,6 +15,7 @@ use Rattle.case_table.specs.declared.slab_quantities.Geometry.{Geometry}
 use Rattle.case_table.specs.Geometry.{colour_of}
 use Rattle.heap_ledger.specs.declared.slab_at.SlabAt.{SlabAt}
 use Rattle.heap_ledger.specs.Commits.{AreReaped, CanShrink, GoesBefore, after_shrinks}
+use Rattle.heap_ledger.proofs.MayCommitLemmas.{shrinks_live, stood}
 use Rattle.plain_heap.specs.Setting.{Setting, cache_def_in, geometry_in}
 use Rattle.plain_heap.specs.State.{HeapSlab, LiveBuffer, State, after_grow, after_shrink, chunk_start, grows_of, held_at, new_slab, next_chunk}
 use Rattle.plain_heap.specs.Legal.{IsUnused}
@@ -123,26 +124,9 @@ grown setting state old new cache base its is lt unused which caches numbers lis
 
 -- ---- slabs less
 
-live_left : (state : State) (slabs : List SlabAt) → (after_shrinks state slabs).live ≡ state.live
-live_left state [] = refl
-live_left state (slab ∷ slabs) = live_left (after_shrink state slab.base) slabs
-
 grown_left : (state : State) (slabs : List SlabAt) → (after_shrinks state slabs).grown ≡ state.grown
 grown_left state [] = refl
 grown_left state (slab ∷ slabs) = grown_left (after_shrink state slab.base) slabs
-
--- what stands after shrinks stood before, at another base than each of them
-stood : (state : State) (slabs : List SlabAt) (slab : HeapSlab) → Contains (after_shrinks state slabs).slabs slab → Contains state.slabs slab × ((one : SlabAt) → Contains slabs one → slab.base ≢ one.base)
-stood state [] slab there = (there, λ one in_none. Contains-nil one in_none)
-stood state (first ∷ slabs) slab there =
-    let before = stood (after_shrink state first.base) slabs slab there in
-    let kept = Contains-from_left_out_by (λ (s : HeapSlab). s.base) state.slabs first.base slab before.0 in (
-      kept.0,
-      λ one among. elim (Contains-cases first one slabs among) [
-        | inl is ↦ λ same. kept.1 (same ∙ sym (ap (λ (s : SlabAt). s.base) is))
-        | inr later ↦ before.1 one later
-      ],
-    )
 
 -- and what stood at another base stands
 stands_on : (state : State) (slabs : List SlabAt) (slab : HeapSlab) → Contains state.slabs slab → ((one : SlabAt) → Contains slabs one → slab.base ≢ one.base) → Contains (after_shrinks state slabs).slabs slab
@@ -210,7 +194,7 @@ module _ (setting : Setting) (state : State) (old : HeapSlabs) (reaped : List Sl
       }
 
   still : (h : HeapSlab) → standing_in setting next h ≡ standing_in setting state h
-  still h = ap (λ (live : List LiveBuffer). stands_by live h) (live_left state reaped)
+  still h = ap (λ (live : List LiveBuffer). stands_by live h) (shrinks_live state reaped)
 
   to : (s : Standing) → Contains (filter (λ slab. not (is_idle slab)) old.slabs) s → Contains (map (standing_in setting next) next.slabs) s
   to s there =

@@ -11,7 +11,7 @@ use Rattle.std.proofs.lemmas.List.Quantifiers.{all_pairs_push}
 use Rattle.std.proofs.lemmas.Simd.{map-map}
 use Rattle.std.proofs.Math.Nat.{div-lt_iff_lt-mul, mul-div_cancel, mul-lt-mul_of_pos_right}
 use Rattle.umem_base.specs.Ordered.{Gains, IsOrderedBy, SplitsBy, put_by}
-use Rattle.umem_base.proofs.Lists.{Contains-here}
+use Rattle.umem_base.proofs.Lists.{Contains-here, map_none, map_one}
 use Rattle.umem_base.proofs.OrderedLemmas.{AllPairs-put_by, All-put_by, Contains-cases, Contains-nil, Gains-put_by, SplitsBy-map, insert-put_by, map-put_by}
 use Rattle.heap_ledger.specs.declared.slab_at.SlabAt.{SlabAt}
 use Rattle.plain_heap.proofs.PairsLemmas.{AllPairs-map, Contains-passing, Contains-seen, pair_of}
@@ -19,7 +19,7 @@ use Rattle.heap_slabs.specs.declared.numbered.Numbered.{Numbered}
 use Rattle.heap_slabs.specs.declared.place.Place.{Place}
 use Rattle.heap_slabs.specs.declared.standing.Standing.{Standing}
 use Rattle.heap_slabs.specs.Standing.{AreNumbered, AreStanding, BeginsAt, HasNumber, HasFree, HaveOtherNumbers, IsApartFrom, IsPlaceOf, IsStanding, begins, chunks_end, has_base, numbered, one_live_less, one_live_more, as_slab_at, with_given, with_taken}
-use Rattle.heap_slabs.proofs.Lists.{list_any_some, map_alike, map_none, map_one, passing_from, seen_from}
+use Rattle.heap_slabs.proofs.Lists.{list_any_some, map_alike, passing_from, seen_from}
 
 -- what is looked up where no slab is
 abbrev pub no_standing : Standing

@@ -7,7 +7,7 @@ ghost use Rattle.plain_heap.specs.State.{after_grow, give_back, hand_out, is_liv
 ghost use Rattle.plain_heap.specs.declared.held.Held.{Held};
 ghost use Rattle.heap_memory.specs.Chunks.{IsKind, IsNextSlab, kind_in};
 ghost use Rattle.heap_slabs.specs.Chunks.{HasNoChunk, HasNoFreeChunk, IsFreeAt, IsLowestFreeChunk, IsNextUnused, IsNumberedAs, placed_at};
-ghost use Rattle.heap_slabs.specs.Standing.{as_slab_at};
+ghost use Rattle.heap_slabs.specs.Standing.{AreStanding, as_slab_at};
 ghost use Rattle.heap_slabs.specs.States.{ForEachTabled, TableBecomes};
 ghost use Rattle.heap_slabs.specs.HeapSlabs.{AreStandingIn, HasPlace, IsTable, IsTableOf, next_slab_of};
 
@@ -16,6 +16,7 @@ use crate::caches::{all_caches, slab_made};
 use crate::free::{first_free, lowest_with_free};
 use crate::placed::Placed;
 use crate::search::address_in;
+use crate::standing::Standing;
 use crate::standing_slabs::StandingSlabs;
 use heap_ledger::SlabAt;
 use heap_memory::{Chunk, ChunkKind, NewSlab};
@@ -78,6 +79,14 @@ impl HeapSlabs {
         ensures exactly { ForEachTabled (λ setting state. AreStandingIn state result.now) self.now }
     {
         self.slabs.places()
+    }
+
+    /// The slabs that stand, by rising base, each with its chunks.
+    pub fn standing(&self) -> &[Standing]
+        ensures slabs { result.now ≡ self.now.slabs }
+        ensures sound { AreStanding self.now.slabs }
+    {
+        self.slabs.slabs()
     }
 
     /// The slab that a cache makes next.
