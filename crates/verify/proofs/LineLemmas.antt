@@ -1,5 +1,5 @@
 -- Lines of one chunk more, and of one slab more.
-use Rattle.std.proofs.Common.{◌≡◌, ℕ, ◌+◌, ◌<◌, List, [], ◌∷◌, ◌++◌, length, get_or, Option, Some, None, ◌*◌, ◌≤◌, Bool, true, false, cond, append_assoc, refl, sym, ap, subst, ◌∙◌, arith, add-one}
+use Rattle.std.proofs.Common.{◌≡◌, ℕ, ◌+◌, ◌<◌, List, [], ◌∷◌, ◌++◌, length, get_or, Option, Some, None, ◌*◌, ◌≤◌, Bool, true, false, cond, take, append_assoc, refl, sym, ap, subst, ◌∙◌, arith, add-one}
 use Rattle.std.specs.List.{Contains, cons_option, filter_map}
 use Rattle.std.specs.Prelude.{option_to_list}
 use Rattle.std.proofs.lemmas.List.Elements.{filter_map-append}
@@ -7,7 +7,10 @@ use Rattle.std.proofs.lemmas.Bool.Decides.{nat_tests}
 use Rattle.std.specs.Option.{option_map}
 use Rattle.std.specs.Prelude.{option_and_then, slice_get}
 use Rattle.buftag.specs.declared.finding.Finding.{Finding}
+use Rattle.buftag.specs.declared.finding.Finding.TheVariants.{Unconstructed}
 use Rattle.buftag.specs.declared.state.State.{State}
+use Rattle.buftag.specs.declared.state.State.TheVariants.{Allocated, Free}
+use Rattle.buftag.specs.Unconstructed.{unconstructed_at}
 use Rattle.case_table.specs.Geometry.{content_of, tag_of}
 use Rattle.case_table.specs.declared.slab_formulas.TheConstants.{TAG_BYTES}
 use Rattle.core_format.specs.declared.cache_shape.CacheShape.{CacheShape}
@@ -24,7 +27,7 @@ use Rattle.heap_view.proofs.BuffersLemmas.{bytes_are}
 use Rattle.heap_view.proofs.LayoutLemmas.{slab_of_chunk-own}
 use Rattle.heap_view.proofs.ListLemmas.{numbers_push}
 use Rattle.verify.specs.declared.line.Line.{Line}
-use Rattle.verify.specs.Lines.{chunk_line, line_in_state, line_of}
+use Rattle.verify.specs.Lines.{NoneBreaks, chunk_line, line_in_state, line_of}
 
 one_option : {X : Type 0} (o : Option X) → cons_option o [] ≡ option_to_list o
 one_option None = refl
@@ -94,3 +97,24 @@ finding-unguarded core slab chunk state item bytes r got guards at e =
     let without = unguarded_finding item (chunk_bytes (core_shapes core) slab chunk) state in
     e ∙ ap (λ (bs : List ℕ). unguarded_finding item bs state) at
     ∙ sym (ap (λ (o : Option CacheItem). option_and_then (finding_in_cache core slab chunk state) o) got ∙ ap (λ (b : Bool). cond b with without) guards)
+
+-- ---- caches that no finding is of
+
+unmade : (item : CacheItem) (bytes : List ℕ) (state : State) → item.def.ctor ≡ None → unguarded_finding item bytes state ≡ None
+unmade item bytes Allocated none = refl
+unmade item bytes Free none = ap (λ (o : Option ℕ). option_and_then (λ value. option_map Unconstructed (unconstructed_at (take item.def.size bytes) value)) o) none
+
+pub none_breaks : (core : Core) (cache : ℕ) (item : CacheItem) → slice_get core.caches cache ≡ Some item → is_guarded_core core ≡ false → item.def.ctor ≡ None → NoneBreaks core cache
+none_breaks core cache item got guards none slab chunk state its =
+    let bytes = chunk_bytes (core_shapes core) slab chunk in
+    let there : slice_get core.caches slab.cache ≡ Some item = ap (λ (c : ℕ). slice_get core.caches c) its ∙ got in
+    sym (finding-unguarded core slab chunk state item bytes None there guards refl (sym (unmade item bytes state none)))
+
+-- of a chunk that can have no finding nothing is told
+pub none_told : (core : Core) (slab : SlabItem) (chunk : ℕ) → IsLaidOut core → Contains core.slabs slab → holds_chunk (core_shapes core) chunk slab ≡ true → NoneBreaks core slab.cache
+    → chunk_line core slab chunk ≡ None
+none_told core slab chunk laid has holds none = go (chunk_state core chunk) refl
+  where
+    go : (o : Option State) → chunk_state core chunk ≡ o → chunk_line core slab chunk ≡ None
+    go None is = ap (λ (s : Option State). option_and_then (line_in_state core slab chunk) s) is
+    go (Some state) is = chunk_line-is core slab chunk state None laid has holds is (sym (none slab chunk state refl))

@@ -1,4 +1,4 @@
-ghost use Rattle.std.specs.Prelude.{◌≡◌, ◌+◌, ◌*◌, ◌<◌, ◌≤◌, IsTrue, length};
+ghost use Rattle.std.specs.Prelude.{◌≡◌, ◌+◌, ◌*◌, ◌<◌, ◌≤◌, IsTrue, false, length};
 ghost use Rattle.buftag.specs.Shape.{IsShape};
 ghost use Rattle.case_table.specs.Geometry.{content_of};
 ghost use Rattle.case_table.specs.declared.limits.TheConstants.{MOST_CACHE_BYTES};
@@ -6,6 +6,7 @@ ghost use Rattle.case_table.specs.declared.slab_formulas.TheConstants.{TAG_BYTES
 ghost use Rattle.core_format.specs.Caches.{is_size_of};
 ghost use Rattle.core_format.specs.Chunks.{chunk_bytes, core_shapes, finding_in_slab, guarded_finding, is_guarded_core, tag_shape, unguarded_finding};
 ghost use Rattle.heap_view.specs.Layout.{IsLaidOut, IsShapeIn, IsSoundSlab};
+ghost use Rattle.verify.specs.Lines.{NoneBreaks};
 
 use bitflags::Flags;
 use buftag::{Finding, Shape, State, first_broken, first_unconstructed};
@@ -18,6 +19,19 @@ fn is_guarded(core: &Core) -> bool
     ensures { result ≡ is_guarded_core core.now }
 {
     core.flags.contains(DebugFlags::GUARDS)
+}
+
+/// Tells whether a chunk of a cache can have a finding: with guards each can, and without them one that a constructor
+/// filled.
+pub fn can_break(core: &Core, cache: u32) -> bool
+    requires { cache < length core.now.caches }
+    ensures { result ≡ false → NoneBreaks core.now cache }
+{
+    if is_guarded(core) {
+        return true;
+    }
+    let item = &core.caches.as_slice()[cache as usize];
+    item.def.ctor.is_some()
 }
 
 /// What the tag of a chunk depends on.

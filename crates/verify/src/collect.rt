@@ -2,7 +2,7 @@ ghost use Rattle.std.specs.Prelude.{◌≡◌, ◌+◌, ◌<◌, ◌≤◌, ◌+
 ghost use Rattle.heap_view.specs.Layout.{IsShapeIn};
 ghost use Rattle.verify.specs.Lines.{IsLineBelow, chunk_line, findings_of, slab_lines};
 
-use crate::check::finding_of;
+use crate::check::{can_break, finding_of};
 use crate::line::Line;
 use case_table::Geometry;
 use core_format::SlabItem;
@@ -18,6 +18,9 @@ fn chunk_line(view: &View, slab: &SlabItem, geometry: &Geometry, index: u32) -> 
     ensures { result ≡ chunk_line view.now slab.now (slab.now.first + index) }
 {
     let core = view.core();
+    if !can_break(core, slab.cache) {
+        return None;
+    }
     // The numbers of chunks are below it, so that each has 32 bits.
     let _next = core.next_chunk;
     let chunk = slab.first + index;

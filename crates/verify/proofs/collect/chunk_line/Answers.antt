@@ -1,17 +1,28 @@
-use Rattle.std.proofs.Common.{◌≡◌, ◌∙◌, ◌+◌, ℕ, Option, Some, None, ap, sym, arith}
+use Rattle.std.proofs.Common.{◌≡◌, ◌∙◌, ◌+◌, ℕ, Option, Some, None, ap, subst, sym, arith}
 use Rattle.std.proofs.lemmas.List.Elements.{All-contains}
 use Rattle.buftag.specs.declared.finding.Finding.{Finding}
 use Rattle.core_format.specs.declared.whole.Core.{Core}
 use Rattle.core_format.specs.Chunks.{core_shapes, finding_in_slab}
 use Rattle.heap_view.specs.Layout.{IsSoundSlab}
 use Rattle.verify.specs.declared.line.Line.{Line}
-use Rattle.verify.proofs.LineLemmas.{chunk_address-is, chunk_line-is, holds_from}
+use Rattle.verify.specs.Lines.{NoneBreaks}
+use Rattle.verify.proofs.LineLemmas.{chunk_address-is, chunk_line-is, holds_from, none_told}
 use Rattle.verify.proofs.collect.chunk_line.Goals as goal
 
 pub overflow_add-chunk : goal.overflow_add-chunk
 overflow_add-chunk c =
     let sound = All-contains (IsSoundSlab c.args.view.now) c.args.view.now.slabs c.args.slab.now c.core-core.ensures.laid_out.slabs c.requires.slab in
     omega (arith, sound.numbered, c.requires.shape.rounds, c.requires.within, ap (λ (core : Core). core.next_chunk) c.core-core.ensures.value)
+
+pub returns-then-not-can_break : goal.returns-then-not-can_break
+returns-then-not-can_break c =
+    let core = c.args.view.now in
+    let slab = c.args.slab.now in
+    let chunk = slab.first + c.args.index in
+    let breaks : NoneBreaks c.core-core.result.now slab.cache = c.can_break.ensures (search (c.if-not-can_break.true)) in
+    let none : NoneBreaks core slab.cache = subst (λ (k : Core). NoneBreaks k slab.cache) c.core-core.ensures.value breaks in
+    let holds = holds_from (core_shapes core) chunk slab (omega arith) (omega (arith, c.requires.within, c.requires.shape.rounds)) in
+    sym (none_told core slab chunk c.core-core.ensures.laid_out c.requires.slab holds none)
 
 pub returns-in_err-finding : goal.returns-in_err-finding
 returns-in_err-finding c =
