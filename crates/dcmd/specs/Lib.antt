@@ -8,3 +8,7 @@ pub mod Users
 pub mod Leaks
 pub mod Walks
 pub mod Answers
+pub mod FaultTexts
+pub mod CommandNames
+pub mod Commands
+pub mod CommandParts
