@@ -1,0 +1,3 @@
+pub mod LimitsLemmas
+pub mod ToldLemmas
+pub mod ValuesLemmas
