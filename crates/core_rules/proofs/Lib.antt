@@ -1,0 +1,11 @@
+pub mod GivesLemmas
+pub mod BeforeLemmas
+pub mod LogLemmas
+pub mod PlaceLemmas
+pub mod SlabLemmas
+pub mod PageLemmas
+pub mod CacheLemmas
+pub mod HeaderLemmas
+pub mod WholeLemmas
+pub mod ByteLemmas
+pub mod PieceLemmas
