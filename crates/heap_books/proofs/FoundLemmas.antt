@@ -14,6 +14,7 @@ use Rattle.plain_heap.specs.Live.{live_at}
 use Rattle.plain_heap.specs.Replies.{finding_at, has_finding_at}
 use Rattle.plain_heap.specs.Setting.{Setting}
 use Rattle.plain_heap.specs.State.{HeapSlab, LiveBuffer, State, chunk_number, held_at, slab_with_chunk, state_of}
+use Rattle.plain_heap.proofs.LiveLemmas.{held_lives}
 use Rattle.plain_heap.proofs.SeparateLemmas.{history_is_separate}
 use Rattle.heap_memory.specs.declared.chunk_kind.ChunkKind.{ChunkKind}
 use Rattle.heap_memory.specs.Chunks.{HoldsChunk, IsChunkAt, kind_in}
@@ -65,20 +66,6 @@ module _ (setting : Setting) (state : State) (address : ℕ) where
   finding_for placed found at is = ap is_some (is ∙ ap (λ (a : ℕ). finding_at setting state a Allocated) (known_at placed at).1)
 
 -- ---- large buffers
-
--- the buffer that is found at an address lives
-pub held_lives : (live : List LiveBuffer) (at : ℕ) (held : Held) → held_at live at ≡ Some held → Contains live (record { address = at; held = held })
-held_lives [] at held h = absurd (cc h)
-held_lives (first ∷ live) at held h = go (eqb first.address at) refl h (λ later. held_lives live at held later)
-  where
-    go : (b : Bool) → eqb first.address at ≡ b → option_map (λ (buffer : LiveBuffer). buffer.held) (cond b (Some first) (find (λ buffer. eqb buffer.address at) live)) ≡ Some held
-        → (held_at live at ≡ Some held → Contains live (record { address = at; held = held })) → Contains (first ∷ live) (record { address = at; held = held })
-    go true is there rest =
-        let here : first.held ≡ held = cc in
-        let same : first.address ≡ at = eqb-true first.address at is in
-        let whole : first ≡ record { address = at; held = held } = grind arith in
-        subst (λ (b : LiveBuffer). Contains (first ∷ live) b) whole (Contains-here first live)
-    go false is there rest = Contains-there first (record { address = at; held = held }) live (rest there)
 
 -- a buffer that lives where no chunk begins is a large one
 pub large_at : (setting : Setting) (entries : List Entry) (tables : Tables) (address : ℕ) → AreChunksKnownByTheirPlaces → AreOfHistory setting entries tables → IsSome (live_at tables.live.buffers address)

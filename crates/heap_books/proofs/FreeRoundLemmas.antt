@@ -16,7 +16,7 @@ use Rattle.plain_heap.proofs.PairsLemmas.{pair_of}
 use Rattle.plain_heap.proofs.PlacesLemmas.{is_cache_of}
 use Rattle.plain_heap.proofs.SettingLemmas.{geometry_in-sound}
 use Rattle.plain_heap.proofs.StepsLemmas.{IsInPlace}
-use Rattle.heap_books.proofs.RisingLemmas.{AreRising, index_told, slab_found}
+use Rattle.plain_heap.proofs.RisingLemmas.{AreRising, index_told, slab_found}
 use Rattle.heap_books.specs.FreeChunks.{IsFreeRound, IsStockOf, slabs_of_cache}
 
 -- what is known of a state that a legal history leaves

@@ -43,7 +43,7 @@ use Rattle.heap_books.proofs.NumberLemmas.{call_same}
 
 -- ---- the numbers of chunks
 
-most_few : (version : ℕ) → most_calls version ≤ 131072
+pub most_few : (version : ℕ) → most_calls version ≤ 131072
 most_few version = by (eqb version 2)
   where
     by : (later : Bool) → cond {A = ℕ} later 131072 65536 ≤ 131072
@@ -68,7 +68,7 @@ any_geometry setting cache header =
     let def = cache_def_in setting cache in geometry_is_sound def.size def.align setting.guards (any_shape setting cache header)
 
 -- no slab has more than 512 chunks
-rounds_few : (setting : Setting) (grown : List ℕ) → IsHeader setting.header → sum_by (λ cache. (geometry_in setting cache).rounds) grown ≤ 512 * length grown
+pub rounds_few : (setting : Setting) (grown : List ℕ) → IsHeader setting.header → sum_by (λ cache. (geometry_in setting cache).rounds) grown ≤ 512 * length grown
 rounds_few setting [] header = omega arith
 rounds_few setting (cache ∷ grown) header =
     let few = (any_geometry setting cache header).rounds_small in

@@ -28,10 +28,10 @@ use Rattle.plain_heap.proofs.SeparateLemmas.{history_in_place, start_in_place}
 use Rattle.plain_heap.proofs.SettingLemmas.{geometry_in-sound}
 use Rattle.plain_heap.proofs.StepsLemmas.{IsInPlace, body_keeps}
 use Rattle.plain_heap.proofs.SlabOfChunk.{find_found}
+use Rattle.plain_heap.proofs.RisingLemmas.{all_rising, find_none}
 use Rattle.heap_ledger.specs.declared.slab_at.SlabAt.{SlabAt}
 use Rattle.heap_ledger.specs.Commits.{after_shrinks}
 use Rattle.heap_ledger.specs.Ledger.{commit_entries, entry, inner_entries, shrunk}
-use Rattle.heap_books.proofs.RisingLemmas.{all_rising, find_none}
 use Rattle.heap_books.specs.FreeChunks.{ArePlacesOf, IsStockOf}
 use Rattle.heap_books.specs.Laws.{IsDecided, NumbersTellAddresses, PlacesHoldTheFreeChunks, at_rest}
 use Rattle.heap_books.specs.Performed.{IsFoundWithin, IsPerformed, IsPerformedChunk, IsPerformedRequest}

@@ -29,4 +29,6 @@ pub mod ReapedLemmas
 pub mod StepLemmas
 pub mod FitLemmas
 pub mod HoldLemmas
-pub mod RisingLemmas
+pub mod AskedLemmas
+pub mod FewLemmas
+pub mod FinishLemmas

@@ -26,7 +26,7 @@ use Rattle.plain_heap.proofs.PlacesLemmas.{chunk_in_slab, is_cache_of, pages_at}
 use Rattle.plain_heap.proofs.RunsLemmas.{new_run}
 use Rattle.plain_heap.proofs.SettingLemmas.{geometry_in-sound}
 use Rattle.plain_heap.proofs.SlabOfChunk.{begun, find_found}
-use Rattle.heap_books.proofs.RisingLemmas.{index_told, slab_found}
+use Rattle.plain_heap.proofs.RisingLemmas.{index_told, slab_found}
 use Rattle.heap_books.specs.FreeChunks.{ArePlacesOf, IsFreeRound, IsStockOf}
 use Rattle.heap_books.specs.Places.{Places, address_of, cache_count, cpu_of, has_chunk_number, places_by_free, slab_with_number, stock_at, with_put, with_stock}
 use Rattle.heap_books.proofs.FreeRoundLemmas.{GivesBackAt, HandsOutAt, IsGood, IsSeat, SameChunks, gave_elsewhere, gave_stock, same_stock, seat_of, start_at, took_elsewhere, took_stock}

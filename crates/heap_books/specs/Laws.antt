@@ -1,5 +1,5 @@
 -- What follows of the definitions of this crate: the statements, which laws prove.
-use Rattle.std.specs.Prelude.{◌≡◌, ℕ, ◌+◌, ◌^◌, ◌<◌, ◌≤◌, Bool, List, [], ◌∷◌, ◌++◌, Option, Some, None, Contains, map}
+use Rattle.std.specs.Prelude.{◌≡◌, ℕ, ◌+◌, ◌^◌, ◌<◌, ◌≤◌, Bool, true, List, [], ◌∷◌, ◌++◌, Option, Some, None, Contains, map}
 use Rattle.case_table.specs.Sizes.{class_for}
 use Rattle.script.specs.declared.operation.Op.{Op}
 use Rattle.script.specs.declared.operation.Op.TheVariants.{Alloc, Zalloc, Free, CacheAlloc, CacheFree, Copy, Clear, Store, Link, Load, Reap}
@@ -15,10 +15,42 @@ use Rattle.plain_heap.specs.Setting.{Setting, geometry_in}
 use Rattle.plain_heap.specs.State.{HeapSlab, State, chunk_start, new_slab, next_chunk, state_of}
 use Rattle.heap_ledger.specs.declared.slab_at.SlabAt.{SlabAt}
 use Rattle.heap_ledger.specs.Ledger.{commit_entries, grown, shrunk}
+use Rattle.heap_books.specs.declared.asked.Asked.{Asked}
+use Rattle.heap_books.specs.declared.asked.Asked.TheVariants as asked
+use Rattle.heap_books.specs.Asked.{asked_of}
 use Rattle.heap_books.specs.FreeChunks.{ArePlacesOf}
+use Rattle.heap_books.specs.Kinds.{is_chunk_call, is_free, is_large, is_plain_call, is_reap_call}
 use Rattle.heap_books.specs.Performed.{IsPerformed}
 use Rattle.heap_books.specs.Placed.{IsPlaced}
 use Rattle.heap_books.specs.Places.{Places, Placing, address_of, places_by_call, places_by_slab, placing_of, places_of, reaped}
+
+-- ---- kinds of calls
+
+-- the cache of which an operation asks a chunk, if it asks one
+abbrev pub cache_asked : Op → Option ℕ
+cache_asked (Alloc slot size) = class_for size
+cache_asked (Zalloc slot size) = class_for size
+cache_asked (CacheAlloc slot cache) = Some cache
+cache_asked (Free slot size) = None
+cache_asked (CacheFree slot cache) = None
+cache_asked (Copy to from) = None
+cache_asked (Clear slot) = None
+cache_asked (Store slot offset stored) = None
+cache_asked (Link slot offset value) = None
+cache_asked (Load to slot offset) = None
+cache_asked Reap = None
+
+-- an operation is of the kind that the commit makes which serves what is asked
+abbrev pub IsOfKindAsked : Op → Asked → Type 0
+IsOfKindAsked op asked.Plain = is_plain_call op ≡ true
+IsOfKindAsked op asked.Large = is_large op ≡ true
+IsOfKindAsked op (asked.Chunk cache) = (is_chunk_call op ≡ true) × (cache_asked op ≡ Some cache)
+IsOfKindAsked op asked.Free = is_free op ≡ true
+IsOfKindAsked op asked.Reap = is_reap_call op ≡ true
+
+-- a call is of the kind that it asks for
+abbrev pub CallsAreOfTheKindAsked : Type 0
+CallsAreOfTheKindAsked = (op : Op) → IsOfKindAsked op (asked_of op)
 
 -- ---- one commit more
 
@@ -39,20 +71,6 @@ AnswersChangePlaces =
     → IsLegal setting entries
     → places_of setting (entries ++ commit_entries number thread [] call answer)
     ≡ places_by_call setting (at_rest (state_of setting entries) (places_of setting entries)) thread call.op answer
-
--- the cache of which an operation asks a chunk, if it asks one
-abbrev pub cache_asked : Op → Option ℕ
-cache_asked (Alloc slot size) = class_for size
-cache_asked (Zalloc slot size) = class_for size
-cache_asked (CacheAlloc slot cache) = Some cache
-cache_asked (Free slot size) = None
-cache_asked (CacheFree slot cache) = None
-cache_asked (Copy to from) = None
-cache_asked (Clear slot) = None
-cache_asked (Store slot offset stored) = None
-cache_asked (Link slot offset value) = None
-cache_asked (Load to slot offset) = None
-cache_asked Reap = None
 
 -- where a slab was made for it, they are those before with the slab, whose first round is in hand
 abbrev pub GrowsChangePlaces : Type 0

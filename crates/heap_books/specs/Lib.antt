@@ -1,6 +1,8 @@
 pub mod Allocs
+pub mod Asked
 pub mod Books
 pub mod Entering
+pub mod Finish
 pub mod Frees
 pub mod Grows
 pub mod Kinds

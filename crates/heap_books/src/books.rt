@@ -1,12 +1,20 @@
-ghost use Rattle.std.specs.Prelude.{◌≡◌, ◌↔◌, [], IfOk, OnErr, IsTrue, is_some};
+ghost use Rattle.std.specs.Prelude.{◌≡◌, ◌^◌, ◌<◌, ◌≤◌, ◌↔◌, [], AllPairs, IfOk, MatchOption, OnErr, IsTrue, is_some, option_map};
 ghost use Rattle.script.specs.Plan.{plan_of};
 ghost use Rattle.script.specs.Rules.{IsPlan};
-ghost use Rattle.plain_heap.specs.Calls.{due_call};
-ghost use Rattle.heap_ledger.specs.Ledger.{IsLedger};
+ghost use Rattle.plain_heap.specs.Calls.{IsFinished, due_call};
+ghost use Rattle.plain_heap.specs.State.{next_chunk};
+ghost use Rattle.heap_ledger.specs.Ledger.{IsLedger, run_setting, run_state};
+ghost use Rattle.heap_slabs.specs.HeapSlabs.{AreStandingIn};
+ghost use Rattle.heap_books.specs.Asked.{asked_of};
+ghost use Rattle.heap_books.specs.Finish.{IsNextDue};
 ghost use Rattle.heap_books.specs.Kinds.{is_large, is_plain_call};
+ghost use Rattle.heap_books.specs.Places.{slab_with_number};
 ghost use Rattle.heap_books.specs.Turns.{TakesFree, TakesGrow, TakesLast, TakesReap, TakesRound, TakesTurn};
 
+use crate::asked::Asked;
+use crate::asked_calls::asked_of;
 use crate::chunk_calls::{chunk_request, free_chunk, hand_chunk};
+use crate::due::Due;
 use crate::freed::Freed;
 use crate::frees::free;
 use crate::grow_calls::{hand_fresh, refuse};
@@ -18,6 +26,7 @@ use crate::reap_calls::{is_reap, reap};
 use crate::tables::Tables;
 use crate::tried::Tried;
 use crate::turn::Turn;
+use heap_ledger::laws::where_none_is_next_all_are_made;
 use heap_ledger::{Ledger, SlabAt, calls_of};
 use heap_memory::Memory;
 use heap_slabs::HeapSlabs;
@@ -91,10 +100,52 @@ impl Books {
         self.ledger.due(thread, call).is_some()
     }
 
+    /// What the call of a thread of that number asks for, if it is its next one, and so which commit makes it.
+    pub fn asked(&self, thread: u32, call: u32) -> Option<Asked>
+        ensures { result ≡ option_map (λ its. asked_of its.op) (due_call self.now.plan self.now.entries thread call) }
+    {
+        let ready = self.ledger.due(thread, call)?;
+        Some(asked_of(ready.op()))
+    }
+
+    /// The next call of the lowest thread that has one, or `None` where all calls were made.
+    pub fn next_due(&self) -> Option<Due>
+        ensures { MatchOption result (IsFinished self.now.plan self.now.entries)
+            (IsNextDue self.now.plan self.now.entries) }
+    {
+        // A law that says why all calls were made where no thread has a next one.
+        where_none_is_next_all_are_made();
+        for thread in 0..self.ledger.header().threads {
+            if self.ledger.next(thread).is_some() {
+                let call = self.ledger.calls_made(thread);
+                return Some(Due { thread, call });
+            }
+        }
+        None
+    }
+
+    /// The slabs that stand, by rising base.
+    pub fn slabs(&self) -> &[SlabAt]
+        ensures rising { AllPairs (λ one other. one.base < other.base) result.now }
+        ensures exactly { AreStandingIn (run_state self.now) result.now }
+    {
+        self.tables.slabs.slabs()
+    }
+
+    /// The cache of the slab that stands of which the chunk has the number, if one has.
+    pub fn cache_of(&self, chunk: u32) -> Option<u32>
+        ensures { result ≡ option_map (λ slab. slab.cache)
+            (slab_with_number (run_setting self.now) (run_state self.now).slabs chunk) }
+    {
+        let placed = self.tables.slabs.chunk(chunk)?;
+        Some(placed.cache)
+    }
+
     /// The entries.
     pub fn history(&self) -> &History
         ensures entries { result.now.items ≡ self.now.entries }
         ensures sound { IsLedger self.now }
+        ensures few { next_chunk (run_setting self.now) (run_state self.now) ≤ 2 ^ 32 }
     {
         self.ledger.history()
     }

@@ -1,6 +1,11 @@
 //! What the definitions of this crate give, for a heap that keeps its free chunks where the magazine rules say.
 
-ghost use Rattle.heap_books.specs.Laws.{AnswersChangePlaces, GrowsChangePlaces, LegalHistoriesAreAtRest, NumbersTellAddresses, PerformedCallsAreOne, PlacedHistoriesAreOne, PlacedHistoriesGrow, PlacesHoldTheFreeChunks, PlansOfOneThreadDecide, ReapsChangePlaces};
+ghost use Rattle.heap_books.specs.Laws.{AnswersChangePlaces, CallsAreOfTheKindAsked, GrowsChangePlaces, LegalHistoriesAreAtRest, NumbersTellAddresses, PerformedCallsAreOne, PlacedHistoriesAreOne, PlacedHistoriesGrow, PlacesHoldTheFreeChunks, PlansOfOneThreadDecide, ReapsChangePlaces};
+
+/// A call is of the kind that it asks for.
+pub fn calls_are_of_the_kind_asked()
+    ensures { CallsAreOfTheKindAsked }
+{}
 
 /// A legal history leaves no chunk of a new slab in hand.
 pub fn legal_histories_are_at_rest()

@@ -2,9 +2,12 @@
 //! magazine rules.
 #![tactic(auto)]
 
+mod asked;
+mod asked_calls;
 mod books;
 mod chunk_calls;
 mod chunk_request;
+mod due;
 mod entering;
 mod freed;
 mod frees;
@@ -21,7 +24,9 @@ mod tables;
 mod tried;
 mod turn;
 
+pub use asked::Asked;
 pub use books::Books;
+pub use due::Due;
 pub use freed::Freed;
 pub use fresh::Fresh;
 pub use grown::Grown;
