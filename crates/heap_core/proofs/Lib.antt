@@ -1,0 +1,14 @@
+pub mod AskedLemmas
+pub mod BackLemmas
+pub mod CallLemmas
+pub mod DueLemmas
+pub mod FinishLemmas
+pub mod FoundLemmas
+pub mod FreeLemmas
+pub mod GrownLemmas
+pub mod HeapLemmas
+pub mod LastLemmas
+pub mod NextLemmas
+pub mod RoundLemmas
+pub mod ShelvesLemmas
+pub mod StartLemmas

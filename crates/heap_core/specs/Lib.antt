@@ -1,0 +1,4 @@
+pub mod ChunkCalls
+pub mod Heap
+pub mod Performs
+pub mod Shelves

@@ -1,0 +1,29 @@
+-- What performing a call gives.
+use Rattle.std.specs.Prelude.{◌≡◌, ℕ, List, None, Some}
+use Rattle.script.specs.Plan.{Call}
+use Rattle.plain_heap.specs.declared.entry.Body.{Body}
+use Rattle.plain_heap.specs.declared.reply.Reply.{Reply}
+use Rattle.plain_heap.specs.Calls.{due_call}
+use Rattle.heap_ledger.specs.Ledger.{Ledger, after_commit, run_setting, run_state}
+use Rattle.heap_books.specs.declared.turn.Turn.{Turn}
+use Rattle.heap_books.specs.declared.turn.Turn.TheVariants.{Behind, Made}
+use Rattle.heap_books.specs.Performed.{IsPerformed}
+use Rattle.heap_core.specs.Heap.{run_places}
+
+-- the call is not the thread's next one, and nothing was made
+pub record IsBehind (old new : Ledger) (thread number : ℕ) : Type 0 where
+  pub none : due_call old.plan old.entries thread number ≡ None
+  pub same : new ≡ old
+
+-- the call was due; exactly the entries were added that the magazine rules decide, by what the entries before it left
+pub record PerformsCall (old new : Ledger) (thread number : ℕ) (answer : Reply) : Type 0 where
+  pub call : Call
+  pub due : due_call old.plan old.entries thread number ≡ Some call
+  pub inner : List Body
+  pub performed : IsPerformed (run_setting old) (run_state old) (run_places old) thread call.op inner answer
+  pub made : new ≡ after_commit old thread inner call answer
+
+-- what performing a call gives
+abbrev pub Performs : Ledger → Ledger → ℕ → ℕ → Turn → Type 0
+Performs old new thread number Behind = IsBehind old new thread number
+Performs old new thread number (Made answer) = PerformsCall old new thread number answer
