@@ -3,5 +3,10 @@ pub mod TablesLemmas
 pub mod RunLemmas
 pub mod RunnableLemmas
 pub mod MessagesLemmas
-pub mod OutcomesLemmas
+pub mod EndsLemmas
+pub mod TranscriptLemmas
+pub mod CoreLemmas
+pub mod LineLemmas
+pub mod SessionLemmas
 pub mod WordsLemmas
+pub mod PromiseLemmas

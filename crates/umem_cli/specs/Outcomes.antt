@@ -1,67 +1,72 @@
--- What the two steps of a run give out: the transcript or a refusal, and the line of a refusal.
-use Rattle.std.specs.Prelude.{◌≡◌, ℕ, ◌⊎◌, List, Result, Ok, Err}
+-- What the steps of a call give.
+use Rattle.std.specs.Prelude.{◌≡◌, ℕ, ◌≤◌, ◌⊎◌, Bool, List, length, Option, Result, Ok, Err}
 use Rattle.std.specs.Global.{Vec}
+use Rattle.std.specs.Io.KnownBytes.{IsAtEnd}
 use Rattle.umem_base.specs.Folder.{Files}
+use Rattle.umem_base.specs.Transfer.{Are}
 use Rattle.umem_base.specs.declared.no_memory.NoMemory.{NoMemory as WantOfMemory}
+use Rattle.core_format.specs.declared.whole.Core.{Core}
+use Rattle.dcmd.specs.declared.dcmd.Dcmd.{Dcmd}
+use Rattle.dcmd.specs.Answers.{IsAnswer}
+use Rattle.umem_cli.specs.declared.limits.TheConstants.{MOST_COMMAND_BYTES}
 use Rattle.umem_cli.specs.declared.refusal.Refusal.{Refusal}
-use Rattle.umem_cli.specs.declared.refusal.Refusal.TheVariants as refusal
 use Rattle.umem_cli.specs.declared.status.Status.{Status}
 use Rattle.umem_cli.specs.declared.status.Status.TheVariants as status
-use Rattle.umem_cli.specs.Messages.{usage_text, message_text}
-use Rattle.umem_cli.specs.Streams.{Stream, Takes, TakesFront}
-use Rattle.umem_cli.specs.Promise.{IsTranscript, IsCause}
+use Rattle.umem_cli.specs.Messages.{usage_text}
+use Rattle.umem_cli.specs.Pieces.{DeliversPiece, FailsPiece, Piece}
+use Rattle.umem_cli.specs.Sessions.{AnswersLine, IsCommandsCause, IsCoreCause, IsCoreIn, is_refused}
+use Rattle.umem_cli.specs.Streams.{Says, Stream, Streams, Takes, TakesFront}
+use Rattle.umem_cli.specs.Transcripts.{IsRunCause, IsTranscript}
 use Rattle.umem_cli.specs.Words.{AreText}
 
--- the transcript of the file of that name was made, and its bytes went out so
-abbrev pub Transcribes : Files → List ℕ → ℕ → ℕ → (List ℕ → Type 0) → Type 0
-Transcribes files name reads_before reads_after Goes =
-    (text : List ℕ) × IsTranscript files name text × (reads_after ≡ reads_before) × Goes text
+-- ---- a run
 
--- nothing was written, for a cause that a line tells
-abbrev pub IsSilent : Files → List ℕ → ℕ → ℕ → Stream → Stream → Refusal → Type 0
-IsSilent files name reads_before reads_after before after why =
-    IsCause files name reads_before reads_after why × (after ≡ before)
+-- the transcript of the script in the file was made, or was not for a cause
+abbrev pub MakesTranscript : Files → List ℕ → ℕ → ℕ → Result (List ℕ) Refusal → Type 0
+MakesTranscript files name before after (Ok text) = IsTranscript files name text × (after ≡ before)
+MakesTranscript files name before after (Err why) = IsRunCause files name before after why
 
--- the transcript was written, or was not for this reason
-abbrev pub PrintsOrRefuses :
-    Files → List ℕ → ℕ → ℕ → Stream → Stream → Result (Unit {0}) Refusal → Type 0
-PrintsOrRefuses files name reads_before reads_after before after (Ok done) =
-    Transcribes files name reads_before reads_after (Takes before after)
-PrintsOrRefuses files name reads_before reads_after before after (Err refusal.WriteFault) =
-    Transcribes files name reads_before reads_after (TakesFront before after)
-PrintsOrRefuses files name reads_before reads_after before after (Err refusal.NoMemory) =
-    (reads_after ≡ reads_before) × (after ≡ before)
-PrintsOrRefuses files name reads_before reads_after before after (Err (refusal.BadScript line reason)) =
-    IsSilent files name reads_before reads_after before after (refusal.BadScript line reason)
-PrintsOrRefuses files name reads_before reads_after before after (Err refusal.NoScript) =
-    IsSilent files name reads_before reads_after before after refusal.NoScript
-PrintsOrRefuses files name reads_before reads_after before after (Err refusal.NoFile) =
-    IsSilent files name reads_before reads_after before after refusal.NoFile
-PrintsOrRefuses files name reads_before reads_after before after (Err refusal.ReadFault) =
-    IsSilent files name reads_before reads_after before after refusal.ReadFault
+-- ---- commands over a core
 
--- the line of the refusal was written with this status, or failed
-abbrev pub SaysLine : List ℕ → Refusal → Stream → Stream → Status → Status → Type 0
-SaysLine name why before after own result =
-    ((result ≡ own) × Takes before after (message_text name why))
-    ⊎ ((result ≡ status.WriteFault) × TakesFront before after (message_text name why))
+-- the core in the file was read, or was not for a cause
+abbrev pub ReadsCore : Files → List ℕ → ℕ → ℕ → Result Core Refusal → Type 0
+ReadsCore files name before after (Ok core) = IsCoreIn files name core × (after ≡ before)
+ReadsCore files name before after (Err why) = IsCoreCause files name before after why
 
--- what is said of a refusal, and with which status
-abbrev pub Refuses : List ℕ → Refusal → Stream → Stream → Status → Type 0
-Refuses name (refusal.BadScript line reason) before after result =
-    SaysLine name (refusal.BadScript line reason) before after status.BadScript result
-Refuses name refusal.NoScript before after result = SaysLine name refusal.NoScript before after status.BadScript result
-Refuses name refusal.NoFile before after result = SaysLine name refusal.NoFile before after status.NoFile result
-Refuses name refusal.ReadFault before after result =
-    SaysLine name refusal.ReadFault before after status.ReadFault result
-Refuses name refusal.WriteFault before after result = (result ≡ status.WriteFault) × (after ≡ before)
-Refuses name refusal.NoMemory before after result = (result ≡ status.NoMemory) × (after ≡ before)
+-- all commands were read of the input, or were not for a cause
+abbrev pub ReadsCommands : Option (List ℕ) → Option (List ℕ) → ℕ → ℕ → Result (Vec ℕ) Refusal → Type 0
+ReadsCommands input input_after before after (Ok commands) =
+    Are input commands.items × (length commands.items ≤ MOST_COMMAND_BYTES) × (after ≡ before) × IsAtEnd input_after
+ReadsCommands input input_after before after (Err why) = IsCommandsCause input input_after before after why
+
+-- an answer to the command went so to the output
+abbrev pub Answers : Core → Dcmd → (List ℕ → Type 0) → Type 0
+Answers core dcmd Goes = (text : List ℕ) × IsAnswer core dcmd text × Goes text
+
+-- the answer to the command was written, or was not for want of memory, or the output failed
+abbrev pub EndsAnswer : Core → Dcmd → Stream → Stream → Result (Unit {0}) Status → Type 0
+EndsAnswer core dcmd before after (Ok done) = Answers core dcmd (Takes before after)
+EndsAnswer core dcmd before after (Err end) =
+    ((end ≡ status.NoMemory) × (after ≡ before))
+    ⊎ ((end ≡ status.WriteFault) × Answers core dcmd (TakesFront before after))
+
+-- what is wanted for the line went so to the streams
+abbrev pub AnswersSo : Core → ℕ → List ℕ → (Piece → Type 0) → Type 0
+AnswersSo core number line Goes = (piece : Piece) × AnswersLine core number line piece × Goes piece
+
+-- what is wanted for the line was written, or was not for want of memory, or a stream failed
+abbrev pub EndsLine : Core → ℕ → List ℕ → Streams → Streams → Result Bool Status → Type 0
+EndsLine core number line before after (Ok refuses) =
+    AnswersSo core number line (DeliversPiece before after) × (refuses ≡ is_refused line)
+EndsLine core number line before after (Err end) =
+    ((end ≡ status.NoMemory) × (after ≡ before))
+    ⊎ ((end ≡ status.WriteFault) × AnswersSo core number line (FailsPiece before after))
+
+-- ---- words
 
 -- the usage lines were written, or failed
 abbrev pub SaysUsage : Stream → Stream → Status → Type 0
-SaysUsage before after result =
-    ((result ≡ status.Usage) × Takes before after usage_text)
-    ⊎ ((result ≡ status.WriteFault) × TakesFront before after usage_text)
+SaysUsage before after result = Says usage_text status.Usage before after result
 
 -- the words are the arguments, which are all text
 abbrev pub AreWordsOf : Result (Vec (List ℕ)) WantOfMemory → List (List ℕ) → Type 0

@@ -1,141 +1,75 @@
 -- What a call of the program gives out.
-use Rattle.std.specs.Prelude.{◌≡◌, ℕ, ◌⊎◌, ⊤, List, [], ◌∷◌, Some, Ok, Err, false, codes}
-use Rattle.umem_base.specs.Faults.{Rose}
-use Rattle.umem_base.specs.Folder.{Files, bytes_of, MayHave, MayLack}
-use Rattle.umem_base.specs.Transfer.{Are}
-use Rattle.script.specs.declared.reasons.Reason.{Reason}
+use Rattle.std.specs.Prelude.{◌≡◌, ℕ, ◌⊎◌, ◌≤◌, ⊤, if◌then◌else◌, List, [], ◌∷◌, length, nat_lt, Option, Some, None, Ok}
+use Rattle.std.specs.List.{list_any}
+use Rattle.umem_base.specs.Folder.{bytes_of}
+use Rattle.umem_base.specs.Lines.{lines_of}
+use Rattle.core_format.specs.declared.whole.Core.{Core}
+use Rattle.core_format.specs.Cores.{core_of}
 use Rattle.script.specs.Grammar.{script_of}
 use Rattle.script.specs.Plan.{Plan}
-use Rattle.plain_heap.specs.declared.entry.Entry.{Entry}
-use Rattle.plain_heap.specs.FirstAnswers.{FirstAnswers}
-use Rattle.plain_heap.specs.Texts.{transcript_text}
-use Rattle.umem_cli.specs.declared.refusal.Refusal.{Refusal}
-use Rattle.umem_cli.specs.declared.refusal.Refusal.TheVariants as refusal
+use Rattle.umem_cli.specs.declared.limits.TheConstants.{MOST_COMMAND_BYTES, MOST_CORE_BYTES}
 use Rattle.umem_cli.specs.declared.status.Status.{Status}
-use Rattle.umem_cli.specs.declared.status.Status.TheVariants.{Done, Refused, Usage, BadScript, BadCore, ReadFault, WriteFault, NoMemory, NoFile}
-use Rattle.umem_cli.specs.Messages.{usage_text, message_text}
-use Rattle.umem_cli.specs.Runnable.{IsRunnable}
-use Rattle.umem_cli.specs.Streams.{Seen, Takes, TakesFront, HasNoFault}
+use Rattle.umem_cli.specs.declared.status.Status.TheVariants.{Done, NoMemory, Refused, Usage}
+use Rattle.umem_cli.specs.Asked.{Task, job_of, mdb, none, run}
+use Rattle.umem_cli.specs.Histories.{CanRun}
+use Rattle.umem_cli.specs.Messages.{usage_text}
+use Rattle.umem_cli.specs.Pieces.{Gives, Wanted, for_err}
+use Rattle.umem_cli.specs.Transcripts.{WantsRun}
+use Rattle.umem_cli.specs.Sessions.{WantsMdb, answered, is_refused}
+use Rattle.umem_cli.specs.World.{HasNoFault, KeepsInput, World}
 
--- ---- a run
+-- the usage lines are wanted, and nothing is read
+abbrev pub WantsUsage : World → World → Wanted → Type 0
+WantsUsage before after wanted =
+    (after.read_faults ≡ before.read_faults) × (wanted ≡ record { pieces = for_err usage_text ∷ []; status = Usage })
 
--- the text is the transcript of a history that answers the script in the file of that name
-pub record IsTranscript (files : Files) (name text : List ℕ) : Type 0 where
-  pub file : MayHave files name
-  pub bytes : List ℕ
-  pub read : Are (bytes_of files name) bytes
-  pub plan : Plan
-  pub spelled : script_of bytes ≡ Ok plan
-  pub runnable : IsRunnable plan
-  pub history : List Entry
-  pub answers : FirstAnswers plan history
-  pub printed : text ≡ transcript_text plan.header false history
-
--- the file is there, and that is the first bad line of its bytes, with its reason
-pub record IsBadAt (files : Files) (name : List ℕ) (line : ℕ) (reason : Reason) : Type 0 where
-  pub file : MayHave files name
-  pub bytes : List ℕ
-  pub read : Are (bytes_of files name) bytes
-  pub bad : script_of bytes ≡ Err (line, reason)
-
--- the file is there, and its bytes spell a script that can't be run
-pub record SpellsOther (files : Files) (name : List ℕ) : Type 0 where
-  pub file : MayHave files name
-  pub bytes : List ℕ
-  pub read : Are (bytes_of files name) bytes
-  pub plan : Plan
-  pub spelled : script_of bytes ≡ Ok plan
-  pub other : ¬ IsRunnable plan
-
--- why a line is written on the error stream, with the count of read faults before and after
-abbrev pub IsCause : Files → List ℕ → ℕ → ℕ → Refusal → Type 0
-IsCause files name before after (refusal.BadScript line reason) = IsBadAt files name line reason × (after ≡ before)
-IsCause files name before after refusal.NoScript = SpellsOther files name × (after ≡ before)
-IsCause files name before after refusal.NoFile = MayLack files name × (after ≡ before)
-IsCause files name before after refusal.ReadFault = Rose before after
-IsCause files name before after refusal.WriteFault = ⊥
-IsCause files name before after refusal.NoMemory = ⊥
-
--- the line was written, for its cause, and nothing else
-abbrev pub Complains : Files → List ℕ → Seen → Seen → Refusal → Type 0
-Complains files name before after why =
-    IsCause files name before.read_faults after.read_faults why
-    × (after.out ≡ before.out) × Takes before.err after.err (message_text name why)
-
--- the line of a bad script was written, or that of one that can't be run, and nothing else
-abbrev pub ComplainsOfScript : Files → List ℕ → Seen → Seen → Type 0
-ComplainsOfScript files name before after =
-    ((line : ℕ) × (reason : Reason) × Complains files name before after (refusal.BadScript line reason))
-    ⊎ Complains files name before after refusal.NoScript
-
--- the whole transcript was written, and nothing else
-abbrev pub Prints : Files → List ℕ → Seen → Seen → Type 0
-Prints files name before after =
-    (text : List ℕ) × IsTranscript files name text
-    × (after.read_faults ≡ before.read_faults) × (after.err ≡ before.err) × Takes before.out after.out text
-
--- the output failed, after it had taken a front of the transcript
-abbrev pub FailsOut : Files → List ℕ → Seen → Seen → Type 0
-FailsOut files name before after =
-    (text : List ℕ) × IsTranscript files name text
-    × (after.read_faults ≡ before.read_faults) × (after.err ≡ before.err) × TakesFront before.out after.out text
-
--- the error stream failed, after it had taken a front of a line
-abbrev pub FailsErr : Files → List ℕ → Seen → Seen → Type 0
-FailsErr files name before after =
-    (why : Refusal) × IsCause files name before.read_faults after.read_faults why
-    × (after.out ≡ before.out) × TakesFront before.err after.err (message_text name why)
-
--- memory was short: nothing was written, and no count of faults rose
-abbrev pub LacksMemory : Seen → Seen → Type 0
-LacksMemory before after = after ≡ before
-
--- what `run` gives out for the file of that name, by its status
-abbrev pub GivenOut : Files → List ℕ → Seen → Seen → Status → Type 0
-GivenOut files name before after Done = Prints files name before after
-GivenOut files name before after Refused = ⊥
-GivenOut files name before after Usage = ⊥
-GivenOut files name before after BadScript = ComplainsOfScript files name before after
-GivenOut files name before after BadCore = ⊥
-GivenOut files name before after ReadFault = Complains files name before after refusal.ReadFault
-GivenOut files name before after WriteFault = FailsOut files name before after ⊎ FailsErr files name before after
-GivenOut files name before after NoMemory = LacksMemory before after
-GivenOut files name before after NoFile = Complains files name before after refusal.NoFile
-
--- ---- words that are text
-
--- the words ask to run the script in the file of that name
-abbrev pub IsRunOf : List (List ℕ) → List ℕ → Type 0
-IsRunOf words name = words ≡ codes "run" ∷ name ∷ []
-
--- words that are no command get the usage lines, and nothing else
-abbrev pub ComplainsOfWords : Seen → Seen → Status → Type 0
-ComplainsOfWords before after Usage =
-    (after.read_faults ≡ before.read_faults) × (after.out ≡ before.out) × Takes before.err after.err usage_text
-ComplainsOfWords before after WriteFault =
-    (after.read_faults ≡ before.read_faults) × (after.out ≡ before.out)
-    × TakesFront before.err after.err usage_text
-ComplainsOfWords before after other = ⊥
+-- what may be wanted for what is asked
+abbrev pub IsWanted : Task → World → World → Wanted → Type 0
+IsWanted (run name) before after wanted = KeepsInput before after × WantsRun name before after wanted
+IsWanted (mdb name) before after wanted = WantsMdb name before after wanted
+IsWanted none before after wanted = KeepsInput before after × WantsUsage before after wanted
 
 -- what the program gives out for its words
-abbrev pub GivenOutFor : List (List ℕ) → Files → Seen → Seen → Status → Type 0
-GivenOutFor words files before after status =
-    ((name : List ℕ) × IsRunOf words name × GivenOut files name before after status)
-    ⊎ (((name : List ℕ) → IsRunOf words name → ⊥) × ComplainsOfWords before after status)
+abbrev pub GivenOut : List (List ℕ) → World → World → Status → Type 0
+GivenOut words before after status =
+    Gives (IsWanted (job_of words) before after) before.streams after.streams status
 
--- the status is Done, or memory was short
-abbrev pub IsDone : Status → Type 0
-IsDone Done = ⊤
-IsDone NoMemory = ⊤
-IsDone other = ⊥
+-- ---- what a call may not leave out
 
--- where a script is there that can be run, and nothing failed, it was run
-abbrev pub IsWholeRun : Files → List ℕ → Seen → Seen → Status → Type 0
-IsWholeRun files name before after status =
-    (bytes : List ℕ) (plan : Plan) → bytes_of files name ≡ Some bytes → script_of bytes ≡ Ok plan → IsRunnable plan
-    → HasNoFault before after → IsDone status
+-- a script is there that can be run
+pub record IsScriptThere (name : List ℕ) (before : World) : Type 0 where
+  pub bytes : List ℕ
+  pub file : bytes_of before.files name ≡ Some bytes
+  pub plan : Plan
+  pub spelled : script_of bytes ≡ Ok plan
+  pub runnable : CanRun plan
 
--- where the words ask for a script that is there and can be run, and nothing failed, it was run
-abbrev pub IsWholeRunFor : List (List ℕ) → Files → Seen → Seen → Status → Type 0
-IsWholeRunFor words files before after status =
-    (name : List ℕ) → IsRunOf words name → IsWholeRun files name before after status
+-- a core is there
+pub record IsCoreThere (name : List ℕ) (before : World) : Type 0 where
+  pub bytes : List ℕ
+  pub file : bytes_of before.files name ≡ Some bytes
+  pub short : length bytes ≤ MOST_CORE_BYTES
+  pub core : Core
+  pub is : core_of bytes ≡ Ok core
+
+-- the status of commands: too many bytes are refused as a whole
+abbrev pub commands_status : List ℕ → Status
+commands_status commands =
+    if nat_lt MOST_COMMAND_BYTES (length commands) then Refused else answered (list_any is_refused (lines_of commands))
+
+-- the status of the input's commands, where it tells its bytes
+abbrev pub IsStatusOf : Option (List ℕ) → Status → Type 0
+IsStatusOf None status = (status ≡ Done) ⊎ (status ≡ Refused)
+IsStatusOf (Some commands) status = status ≡ commands_status commands
+
+-- Where a script or a core is there and no count rose, the call is done, or memory was short.
+abbrev pub IsWholeOf : Task → World → World → Status → Type 0
+IsWholeOf (run name) before after status =
+    IsScriptThere name before → HasNoFault before after → (status ≡ Done) ⊎ (status ≡ NoMemory)
+IsWholeOf (mdb name) before after status =
+    IsCoreThere name before → HasNoFault before after → IsStatusOf before.input status ⊎ (status ≡ NoMemory)
+IsWholeOf none before after status = HasNoFault before after → status ≡ Usage
+
+-- the same for words
+abbrev pub IsWhole : List (List ℕ) → World → World → Status → Type 0
+IsWhole words before after status = IsWholeOf (job_of words) before after status

@@ -1,7 +1,9 @@
--- What is seen of the streams, and of the faults of the folder, outside of the program.
-use Rattle.std.specs.Prelude.{◌≡◌, ℕ, ◌<◌, List, length, take, Option}
+-- What is seen of the output and of the error stream.
+use Rattle.std.specs.Prelude.{◌≡◌, ℕ, ◌<◌, ◌⊎◌, List, length, take, Option}
 use Rattle.std.specs.Io.KnownBytes.{Appends}
 use Rattle.umem_base.specs.Faults.{Rose}
+use Rattle.umem_cli.specs.declared.status.Status.{Status}
+use Rattle.umem_cli.specs.declared.status.Status.TheVariants.{WriteFault}
 
 -- what a sink has taken, where it tells it, and how often it failed
 pub record Stream : Type 0 where
@@ -11,6 +13,16 @@ pub record Stream : Type 0 where
 -- the stream of a sink with these ghosts
 abbrev pub stream : Option (List ℕ) → ℕ → Stream
 stream taken faults = record { taken = taken; faults = faults }
+
+-- both streams
+pub record Streams : Type 0 where
+  pub out : Stream
+  pub err : Stream
+
+-- the streams of two sinks with these ghosts
+abbrev pub streams : Option (List ℕ) → ℕ → Option (List ℕ) → ℕ → Streams
+streams out_taken out_faults err_taken err_faults =
+    record { out = stream out_taken out_faults; err = stream err_taken err_faults }
 
 -- it took these bytes, and did not fail
 abbrev pub Takes : Stream → Stream → List ℕ → Type 0
@@ -22,22 +34,7 @@ TakesFront before after bytes =
     (n : ℕ) × (n < length bytes)
     × Appends before.taken after.taken (take n bytes) × Rose before.faults after.faults
 
--- what is seen at a moment: the count of read faults of the folder, and the two streams
-pub record Seen : Type 0 where
-  pub read_faults : ℕ
-  pub out : Stream
-  pub err : Stream
-
--- what is seen of a folder with this count, and of an output and an error stream with these ghosts
-abbrev pub seen : ℕ → Option (List ℕ) → ℕ → Option (List ℕ) → ℕ → Seen
-seen read_faults out_taken out_faults err_taken err_faults = record {
-  read_faults = read_faults;
-  out = stream out_taken out_faults;
-  err = stream err_taken err_faults;
-}
-
--- no count of faults rose
-pub record HasNoFault (before after : Seen) : Type 0 where
-  pub reads : Rose before.read_faults after.read_faults → ⊥
-  pub out : Rose before.out.faults after.out.faults → ⊥
-  pub err : Rose before.err.faults after.err.faults → ⊥
+-- it took these bytes, and the status is the wanted one; or it failed
+abbrev pub Says : List ℕ → Status → Stream → Stream → Status → Type 0
+Says bytes wanted before after status =
+    ((status ≡ wanted) × Takes before after bytes) ⊎ ((status ≡ WriteFault) × TakesFront before after bytes)

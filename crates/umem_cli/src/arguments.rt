@@ -3,8 +3,8 @@ ghost use Rattle.std.specs.String.{string_bytes};
 ghost use Rattle.umem_cli.specs.Streams.{stream};
 ghost use Rattle.umem_cli.specs.Outcomes.{AreWordsOf, RefusesArguments};
 
+use crate::report::refuse_words;
 use crate::status::Status;
-use crate::top::refuse_words;
 use crate::words::{are_text, strings_of};
 use std::alloc::Global;
 use umem_base::{NoMemory, Sink, Text};

@@ -1,15 +1,19 @@
-//! The command line: reads its words, runs a script, and answers with a status.
+//! The command line: reads its words, runs a script or answers commands over a core, and ends with a status.
 #![tactic(auto)]
 
 mod arguments;
+mod asked;
 mod given;
 mod job;
+mod limits;
 mod mem_words;
 mod message;
 mod refusal;
+mod report;
 mod run;
 mod runnable;
 mod script_run;
+mod session;
 mod status;
 mod system_words;
 mod tables;
@@ -19,8 +23,13 @@ mod words;
 pub use arguments::command_words;
 pub use given::{Words, given_words};
 pub use job::Job;
+pub use limits::{MOST_COMMAND_BYTES, MOST_CORE_BYTES};
 pub use mem_words::MemWords;
 pub use script_run::run_script;
+pub use session::diagnose;
 pub use status::Status;
 pub use system_words::SystemWords;
 pub use top::umem;
+
+#[cfg(test)]
+mod tests;

@@ -1,26 +1,37 @@
 ghost use Rattle.std.specs.Prelude.{◌≡◌};
-ghost use Rattle.umem_cli.specs.declared.refusal.Refusal.TheVariants.{NoMemory, WriteFault};
-ghost use Rattle.umem_cli.specs.Refusal.{refusal_of_read, refusal_of_script};
+ghost use Rattle.umem_cli.specs.declared.refusal.Refusal.TheVariants.{NoMemory};
+ghost use Rattle.umem_cli.specs.Refusal.{refusal_of_commands, refusal_of_core, refusal_of_read, refusal_of_script};
 
+use core_format::{CoreFault, Fault};
 use script::{Reason, ScriptFault};
-use umem_base::{NoMemory, ReadFile, WriteFault};
+use umem_base::{NoMemory, ReadAll, ReadFile};
 
-/// Why no transcript was printed.
+/// Why nothing more is done. Each is told by a line, but want of memory.
 #[derive(Clone, Copy, Debug, PartialEq, Eq)]
 pub enum Refusal {
-    /// The file has a bad line.
+    /// The file of a script has a bad line.
     BadScript { line: u32, reason: Reason },
     /// The script in the file can't be run.
     NoScript,
+    /// The file of a core has too many bytes.
+    CoreTooLong,
+    /// The file of a core breaks a rule of the format.
+    BadCore { offset: u64, fault: Fault },
+    /// The folder has no such file.
     NoFile,
+    /// The folder failed, at an opening or a read.
     ReadFault,
-    WriteFault,
+    /// The input failed, from which commands are read.
+    CommandsFault,
+    /// The commands have too many bytes.
+    CommandsTooLong,
     NoMemory,
 }
 
 impl From<ReadFile> for Refusal {
     ghost from_gives = { λ fault r. r ≡ refusal_of_read fault };
 
+    /// Of the file of a script.
     fn from(fault: ReadFile) -> Refusal {
         match fault {
             ReadFile::Missing => Refusal::NoFile,
@@ -45,18 +56,34 @@ impl From<ScriptFault> for Refusal {
     }
 }
 
+impl From<CoreFault> for Refusal {
+    ghost from_gives = { λ fault r. r ≡ refusal_of_core fault };
+
+    fn from(fault: CoreFault) -> Refusal {
+        match fault {
+            CoreFault::Bad { offset, fault } => Refusal::BadCore { offset, fault },
+            CoreFault::NoMemory => Refusal::NoMemory,
+        }
+    }
+}
+
+impl From<ReadAll> for Refusal {
+    ghost from_gives = { λ fault r. r ≡ refusal_of_commands fault };
+
+    /// Of the commands.
+    fn from(fault: ReadAll) -> Refusal {
+        match fault {
+            ReadAll::ReadFault => Refusal::CommandsFault,
+            ReadAll::TooLong => Refusal::CommandsTooLong,
+            ReadAll::NoMemory => Refusal::NoMemory,
+        }
+    }
+}
+
 impl From<NoMemory> for Refusal {
     ghost from_gives = { λ _ r. r ≡ NoMemory };
 
     fn from(_: NoMemory) -> Refusal {
         Refusal::NoMemory
-    }
-}
-
-impl From<WriteFault> for Refusal {
-    ghost from_gives = { λ _ r. r ≡ WriteFault };
-
-    fn from(_: WriteFault) -> Refusal {
-        Refusal::WriteFault
     }
 }

@@ -1,11 +1,11 @@
 //! One call of the command over objects in memory.
 
+use crate::{command_words, umem};
 use std::alloc::{AllocError, Global};
 use std::sync::Wait;
 use std::test::Fail;
 use std::thread::Threads;
 use umem_base::{MemFolder, MemSink, MemSource, NoGate, NoMemory, Text};
-use umem_cli::{command_words, umem};
 
 /// No call has this number.
 pub const NEVER: u64 = u64::MAX;
@@ -15,16 +15,26 @@ const PIECE: usize = 16;
 
 const ROOM: usize = 1000;
 
-/// The numbers of the calls that fail: of the folder, of the output, and of the error stream.
+/// What a call finds: a file of a name, and the bytes of the input.
+#[derive(Clone, Copy)]
+pub struct Outside<'a> {
+    pub name: &'a [u8],
+    pub file: &'a [u8],
+    pub input: &'a [u8],
+}
+
+/// The numbers of the calls that fail: of the folder, of the input, of the output, and of the error stream.
 #[derive(Clone, Copy)]
 pub struct Failing {
     pub files: u64,
+    pub input: u64,
     pub out: u64,
     pub err: u64,
 }
 
 pub const NOTHING: Failing = Failing {
     files: NEVER,
+    input: NEVER,
     out: NEVER,
     err: NEVER,
 };
@@ -65,9 +75,42 @@ pub fn call_with<R: Threads + Wait + Sync>(
     script: &[u8],
     failing: Failing,
 ) -> Result<Outcome, Fail> {
+    let outside = Outside {
+        name: b"first.umem",
+        file: script,
+        input: b"",
+    };
+    call_over(rt, alloc, words, outside, failing)
+}
+
+/// Answers commands over a core, which stands in the file `core`.
+pub fn call_mdb<R: Threads + Wait + Sync>(
+    rt: &R,
+    alloc: Global,
+    core: &[u8],
+    commands: &[u8],
+    failing: Failing,
+) -> Result<Outcome, Fail> {
+    let outside = Outside {
+        name: b"core",
+        file: core,
+        input: commands,
+    };
+    let words = texts(alloc, &[b"mdb".as_slice(), b"core"])?;
+    call_over(rt, alloc, Ok(words), outside, failing)
+}
+
+fn call_over<R: Threads + Wait + Sync>(
+    rt: &R,
+    alloc: Global,
+    words: Result<Vec<Text>, NoMemory>,
+    outside: Outside,
+    failing: Failing,
+) -> Result<Outcome, Fail> {
     let mut files = MemFolder::new(alloc, vec![in alloc; failing.files]?);
-    files.put(&Text::from_slice(alloc, b"first.umem")?, script, 0)?;
-    let mut input = MemSource::new(Vec::new(alloc), Vec::new(alloc));
+    files.put(&Text::from_slice(alloc, outside.name)?, outside.file, 0)?;
+    let commands = Vec::from_slice(alloc, outside.input)?;
+    let mut input = MemSource::new(commands, vec![in alloc; failing.input]?);
     let mut out = MemSink::new(alloc, PIECE, ROOM, vec![in alloc; failing.out]?)?;
     let mut err = MemSink::new(alloc, PIECE, ROOM, vec![in alloc; failing.err]?)?;
     let status = match command_words(alloc, words, &mut err) {

@@ -1,10 +1,10 @@
 //! The words of the command line, as a system gives them.
 
-use crate::scene::{NOTHING, call_with, texts};
+use crate::tests::scene::{NOTHING, call_with, texts};
+use crate::{MemWords, Status, SystemWords, given_words};
 use std::env::{Env, FillError};
 use std::test::Fail;
 use umem_base::{NoMemory, Text};
-use umem_cli::{MemWords, Status, SystemWords, given_words};
 
 // A system that gives these words, the first of which is the program's name, and has no variables.
 #[derive(Drop)]

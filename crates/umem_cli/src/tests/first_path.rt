@@ -1,8 +1,8 @@
 //! The first scripts, and each fault that may meet them.
 
-use crate::scene::{Failing, NEVER, NOTHING, call};
+use crate::Status;
+use crate::tests::scene::{Failing, NEVER, NOTHING, call};
 use std::test::Fail;
-use umem_cli::Status;
 
 const FIRST: &[u8] = b"umem 1 cpus 1 threads 1\nphase\n0 alloc $1 24\n0 free $1 24\n";
 
@@ -135,7 +135,12 @@ fn ends_at_each_fault(rt: HostRuntime) -> Result<(), Fail> {
         (0, NEVER, 3, Status::ReadFault, 0, 30),
         (0, 0, NEVER, Status::ReadFault, 0, 30),
     ] {
-        let failing = Failing { files, out, err };
+        let failing = Failing {
+            files,
+            out,
+            err,
+            ..NOTHING
+        };
         let outcome = call(&rt, rt.alloc(), &RUN, FIRST, failing)?;
         assert_eq!(rt; outcome.number, status.code());
         assert_eq!(rt; outcome.out.bytes(), &FIRST_TRANSCRIPT[..taken]);

@@ -1,0 +1,7 @@
+//! The whole command over objects in memory.
+
+mod first_path;
+mod scene;
+mod sessions;
+mod small_core;
+mod words;
