@@ -1,6 +1,9 @@
 //! A small core, byte by byte.
 
-use case_table::class_def;
+ghost use Rattle.std.specs.Prelude.{◌<◌};
+ghost use Rattle.case_table.specs.declared.limits.TheConstants.{CLASS_COUNT};
+
+use case_table::{CLASS_COUNT, class_def};
 use std::alloc::Global;
 use umem_base::NoMemory;
 
@@ -18,7 +21,7 @@ pub fn two_large(alloc: Global) -> Result<Vec<u8>, NoMemory> {
         put_long(&mut out, number)?;
     }
     put_zeros(&mut out, 4080)?;
-    for class in 0..32 {
+    for class in 0..CLASS_COUNT {
         put_class(alloc, &mut out, class)?;
     }
     for number in [0x100000, 4097, 0x102000, 8192] {
@@ -48,7 +51,9 @@ fn put_zeros(out: &mut Vec<u8>, count: usize) -> Result<(), NoMemory> {
 }
 
 /// Appends a size class that made no slab: its name, its size, its alignment, and how many slabs.
-fn put_class(alloc: Global, out: &mut Vec<u8>, class: u32) -> Result<(), NoMemory> {
+fn put_class(alloc: Global, out: &mut Vec<u8>, class: u32) -> Result<(), NoMemory>
+    requires { class < CLASS_COUNT }
+{
     let def = class_def(alloc, class)?;
     let name = def.name.as_slice();
     out.extend_from_slice(name)?;
