@@ -24,7 +24,7 @@ use Rattle.core_format.specs.Reader.{Reader}
 use Rattle.core_format.specs.Slabs.{holds_chunk, shape_at}
 use Rattle.core_format.specs.Spelling.{spelled_count, spelled_depot, spelled_magazine, spelled_numbers, spelled_place}
 use Rattle.core_format.proofs.SpellingLemmas.{rest}
-use Rattle.core_rules.specs.PlaceRules.{AreRoundsOf, IsFullMagazine, IsMagazine, KeepsDepotRules, KeepsPlaceRules, all_rounds_of, magazine_size}
+use Rattle.core_rules.specs.PlaceRules.{AreRoundsOf, IsFullMagazine, IsMagazineOf, KeepsDepotRules, KeepsPlaceRules, all_rounds_of, magazine_size}
 use Rattle.core_rules.specs.Rules.{KeepsTheRules}
 use Rattle.core_rules.specs.SlabRules.{KeepsSlabRules}
 use Rattle.core_rules.proofs.BeforeLemmas.{any_view, earlier_so, item_at_so, item_so}
@@ -109,7 +109,7 @@ count_gives most count here more le small stand =
     gives_rule (leb count most) _ _ _ _ _ (le-leb _ _ le) (
     gives_ok count there more behind))
 
-magazine_gives : (core : Core) (cache : ℕ) (seen rounds later : List ℕ) (here : Reader) (more : List ℕ) → Stand core → IsMagazine core cache rounds
+magazine_gives : (core : Core) (cache : ℕ) (seen rounds later : List ℕ) (here : Reader) (more : List ℕ) → Stand core → IsMagazineOf core cache rounds
     → all_rounds_of core ≡ seen ++ (rounds ++ later) → rest here ≡ spelled_magazine rounds ++ more
     → Gives (magazine_at (core_shapes core) (map bare_slab core.slabs) cache seen here) rounds more
 unfolding magazine_at
@@ -120,7 +120,7 @@ magazine_gives core cache seen rounds later here more facts is total stand =
 
 -- ---- the magazines of the CPUs
 
-place_gives : (core : Core) (seen : List ℕ) (x : CpuPlace) (later : List ℕ) (here : Reader) (more : List ℕ) → Stand core → IsMagazine core x.cache x.loaded → IsMagazine core x.cache x.previous
+place_gives : (core : Core) (seen : List ℕ) (x : CpuPlace) (later : List ℕ) (here : Reader) (more : List ℕ) → Stand core → IsMagazineOf core x.cache x.loaded → IsMagazineOf core x.cache x.previous
     → all_rounds_of core ≡ seen ++ (place_rounds x ++ later) → rest here ≡ spelled_place x ++ more
     → Gives (one_place_at (core_shapes core) (map bare_slab core.slabs) x.cpu x.cache seen here) x more
 unfolding one_place_at

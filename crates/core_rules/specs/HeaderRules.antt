@@ -13,8 +13,8 @@ abbrev pub AreWords : List ℕ → Type 0
 AreWords words = All (λ word. word < 2 ^ 64) words
 
 -- each is a byte
-abbrev pub AreBytes : List ℕ → Type 0
-AreBytes bytes = All (λ byte. byte < 256) bytes
+abbrev pub AreByteValues : List ℕ → Type 0
+AreByteValues bytes = All (λ byte. byte < 256) bytes
 
 -- there is such a version
 abbrev pub IsVersion : ℕ → Type 0

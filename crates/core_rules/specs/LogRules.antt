@@ -12,7 +12,7 @@ use Rattle.core_format.specs.declared.items.AuditItem.{AuditItem}
 use Rattle.core_format.specs.declared.whole.Core.{Core}
 use Rattle.core_format.specs.Chunks.{is_chunk_in}
 use Rattle.core_format.specs.Logs.{is_in_arena}
-use Rattle.core_rules.specs.HeaderRules.{AreBytes, AreWords}
+use Rattle.core_rules.specs.HeaderRules.{AreByteValues, AreWords}
 
 -- how many bytes of a freed buffer are kept at most
 abbrev pub most_kept : Core → ℕ
@@ -50,7 +50,7 @@ pub record KeepsSavedRules (core : Core) (saved : Saved) : Type 0 where
   pub time : saved.time < core.entries
   pub chunk : saved.chunk < core.next_chunk
   pub kept : length saved.bytes ≤ most_kept core
-  pub bytes : AreBytes saved.bytes
+  pub bytes : AreByteValues saved.bytes
 
 -- the audits stand by rising chunk, and each log by rising time
 pub record KeepsLogRules (core : Core) : Type 0 where

@@ -18,7 +18,7 @@ abbrev pub AreRoundsOf : Core → ℕ → List ℕ → Type 0
 AreRoundsOf core cache rounds = All (λ chunk. IsTrue (is_chunk_of (core_shapes core) core.slabs cache chunk)) rounds
 
 -- a magazine of a cache: no more rounds than it has room for, each of that cache
-pub record IsMagazine (core : Core) (cache : ℕ) (rounds : List ℕ) : Type 0 where
+pub record IsMagazineOf (core : Core) (cache : ℕ) (rounds : List ℕ) : Type 0 where
   pub fits : length rounds ≤ magazine_size core cache
   pub own : AreRoundsOf core cache rounds
 
@@ -31,8 +31,8 @@ pub record IsFullMagazine (core : Core) (cache : ℕ) (rounds : List ℕ) : Type
 pub record KeepsPlaceRules (core : Core) (index : ℕ) (place : CpuPlace) : Type 0 where
   pub cpu : place.cpu ≡ index / length core.caches
   pub cache : place.cache ≡ index % length core.caches
-  pub loaded : IsMagazine core place.cache place.loaded
-  pub previous : IsMagazine core place.cache place.previous
+  pub loaded : IsMagazineOf core place.cache place.loaded
+  pub previous : IsMagazineOf core place.cache place.previous
 
 -- the depot of a cache
 pub record KeepsDepotRules (core : Core) (cache : ℕ) (depot : DepotItem) : Type 0 where

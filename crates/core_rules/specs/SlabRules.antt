@@ -10,7 +10,7 @@ use Rattle.core_format.specs.declared.whole.Core.{Core}
 use Rattle.core_format.specs.Chunks.{core_shapes}
 use Rattle.core_format.specs.SlabTable.{AreApart}
 use Rattle.core_format.specs.Slabs.{ends_in_arena, is_arena_page, is_colour, large_end, past_chunks, shape_at, slab_end}
-use Rattle.core_rules.specs.HeaderRules.{AreBytes}
+use Rattle.core_rules.specs.HeaderRules.{AreByteValues}
 
 -- the chunk is one of the slab
 pub record IsOfSlab (shapes : List CacheShape) (slab : SlabItem) (chunk : ℕ) : Type 0 where
@@ -29,7 +29,7 @@ pub record KeepsSlabRules (core : Core) (slab : SlabItem) : Type 0 where
   pub own : All (IsOfSlab (core_shapes core) slab) slab.free
   pub rising : AllPairs (λ chunk later. chunk < later) slab.free
   pub filled : length slab.bytes ≡ PAGE_BYTES * (shape_at (core_shapes core) slab.cache).pages
-  pub bytes : AreBytes slab.bytes
+  pub bytes : AreByteValues slab.bytes
 
 -- a slab stands before another one: it begins below, and ends where that one begins, or below
 pub record IsSlabBefore (shapes : List CacheShape) (slab later : SlabItem) : Type 0 where
@@ -48,7 +48,7 @@ pub record KeepsLargeRules (core : Core) (item : LargeItem) : Type 0 where
   pub large : MOST_CACHE_BYTES < item.size
   pub ends : IsTrue (ends_in_arena core.version item.base (pages_for item.size))
   pub filled : length item.bytes ≡ PAGE_BYTES * pages_for item.size
-  pub bytes : AreBytes item.bytes
+  pub bytes : AreByteValues item.bytes
 
 -- a large buffer stands before another one
 pub record IsLargeBefore (item later : LargeItem) : Type 0 where

@@ -23,7 +23,7 @@ use Rattle.heap_books.specs.Performed.{IsPerformed, IsPerformedChunk, IsPerforme
 use Rattle.heap_books.specs.Places.{Places, places_by_call, places_by_chunk, places_by_request}
 use Rattle.heap_books.specs.Turns.{due_of}
 use Rattle.heap_books.proofs.BooksLemmas.{due_is_next}
-use Rattle.heap_core.specs.ChunkCalls.{IsAsked}
+use Rattle.heap_core.specs.ChunkCalls.{IsChunkDue}
 
 -- ---- operations
 
@@ -138,7 +138,7 @@ module _ (setting : Setting) (state : State) (places : Places) (thread cache : �
 
 -- ---- the call that is due
 
-module _ (ledger : Ledger) (thread number cache : ℕ) (asked : IsAsked ledger thread number cache) where
+module _ (ledger : Ledger) (thread number cache : ℕ) (asked : IsChunkDue ledger thread number cache) where
   due_is : due_of is_chunk_call ledger thread number ≡ Some asked.call
   due_is =
       ap (option_and_then (λ (c : Call). cond (is_chunk_call c.op) (Some c) None)) asked.due
@@ -161,7 +161,7 @@ module _ (ledger : Ledger) (thread number cache : ℕ) (asked : IsAsked ledger t
       request_cache setting asked.call.op request cache (ap (λ (c : Call). chunk_request setting c.op) (sym same) ∙ is) asked.asks
 
   -- one cache is asked
-  pub cache_is : (other : ℕ) → IsAsked ledger thread number other → other ≡ cache
+  pub cache_is : (other : ℕ) → IsChunkDue ledger thread number other → other ≡ cache
   cache_is other its =
       let same = some_one its.call asked.call (sym its.due ∙ asked.due) in
       some_one other cache (sym its.asks ∙ ap (λ (c : Call). cache_asked c.op) same ∙ asked.asks)

@@ -12,7 +12,7 @@ use Rattle.heap_books.specs.Asked.{asked_of}
 use Rattle.heap_books.specs.Laws.{IsOfKindAsked}
 use Rattle.heap_books.specs.Turns.{Waits, due_of}
 use Rattle.heap_books.proofs.AskedLemmas.{asked_kind}
-use Rattle.heap_core.specs.ChunkCalls.{IsAsked}
+use Rattle.heap_core.specs.ChunkCalls.{IsChunkDue}
 
 -- a call that is due and of a kind
 pub record IsDue (kind : Op → Bool) (ledger : Ledger) (thread number : ℕ) (call : Call) : Type 0 where
@@ -41,10 +41,10 @@ waits_not kind old new thread number due waits = false≢true (subst (λ (o : Op
 
 -- a call that asks a chunk of a cache is due
 pub chunk_asked : (ledger : Ledger) (thread number cache : ℕ) → Some (asked.Chunk cache) ≡ option_map (λ (c : Call). asked_of c.op) (due_call ledger.plan ledger.entries thread number)
-    → IsAsked ledger thread number cache
+    → IsChunkDue ledger thread number cache
 chunk_asked ledger thread number cache is = by_call (due_call ledger.plan ledger.entries thread number) refl is
   where
-    by_call : (o : Option Call) → due_call ledger.plan ledger.entries thread number ≡ o → Some (asked.Chunk cache) ≡ option_map (λ (c : Call). asked_of c.op) o → IsAsked ledger thread number cache
+    by_call : (o : Option Call) → due_call ledger.plan ledger.entries thread number ≡ o → Some (asked.Chunk cache) ≡ option_map (λ (c : Call). asked_of c.op) o → IsChunkDue ledger thread number cache
     by_call None found same = absurd (cc same)
     by_call (Some call) found same =
         let asks : asked_of call.op ≡ asked.Chunk cache = cc in

@@ -31,7 +31,7 @@ use Rattle.heap_books.specs.Places.{Places, cpu_of, stock_at}
 use Rattle.heap_books.proofs.BooksLemmas.{is_left}
 use Rattle.heap_books.proofs.FinishLemmas.{calls_left, goes_on, next_is_due}
 use Rattle.heap_core.specs.Heap.{run_places}
-use Rattle.heap_core.specs.Performs.{Performs}
+use Rattle.heap_core.specs.Performs.{PerformsTurn}
 
 -- ---- what a call adds before its own entry
 
@@ -76,7 +76,7 @@ module _ (setting : Setting) (state : State) (places : Places) (thread : ℕ) (a
 -- ---- a call that is next
 
 -- where a call is due, performing it makes it
-pub performs_makes : (old new : Ledger) (thread number : ℕ) (turn : Turn) → IsSome (due_call old.plan old.entries thread number) → Performs old new thread number turn → MakesCall old new thread
+pub performs_makes : (old new : Ledger) (thread number : ℕ) (turn : Turn) → IsSome (due_call old.plan old.entries thread number) → PerformsTurn old new thread number turn → MakesCall old new thread
 performs_makes old new thread number Behind due performs = absurd (false≢true (subst (λ (o : Option Call). IsSome o) performs.none due))
 performs_makes old new thread number (Made answer) due performs = record {
   inner = performs.inner;
@@ -87,11 +87,11 @@ performs_makes old new thread number (Made answer) due performs = record {
 }
 
 -- it goes on by the call that is next of the lowest thread, and one call less is left
-pub goes_further : (first old new : Ledger) (due : Due) (turn : Turn) → GoesOn first old → IsNextDue old.plan old.entries due → Performs old new due.thread due.call turn → GoesOn first new
+pub goes_further : (first old new : Ledger) (due : Due) (turn : Turn) → GoesOn first old → IsNextDue old.plan old.entries due → PerformsTurn old new due.thread due.call turn → GoesOn first new
 goes_further first old new due turn so_far next performs =
     goes_on first old new due.thread so_far next.lowest (performs_makes old new due.thread due.call turn (next_is_due old due next) performs)
 
-pub less_left : (old new : Ledger) (due : Due) (turn : Turn) → IsLedger old → IsNextDue old.plan old.entries due → Performs old new due.thread due.call turn → calls_left new < calls_left old
+pub less_left : (old new : Ledger) (due : Due) (turn : Turn) → IsLedger old → IsNextDue old.plan old.entries due → PerformsTurn old new due.thread due.call turn → calls_left new < calls_left old
 less_left old new due Behind sound next performs = absurd (false≢true (subst (λ (o : Option Call). IsSome o) performs.none (next_is_due old due next)))
 less_left old new due (Made answer) sound next performs =
     let are = performed_inner (run_setting old) (run_state old) (run_places old) due.thread answer performs.call.op performs.inner performs.performed in

@@ -20,7 +20,7 @@ use Rattle.heap_books.specs.Laws.{cache_asked}
 use Rattle.heap_books.specs.Performed.{IsFoundWithin, IsHandedOut, IsPerformedChunk}
 use Rattle.heap_books.specs.Places.{cpu_of, taken, with_stock}
 use Rattle.heap_books.proofs.PlacingLemmas.{answers_change}
-use Rattle.heap_core.specs.ChunkCalls.{CanHand, GivesChunk, GivesNothing, GivesRound, HandsRound, HasNothing, IsAskedOf, PerformsChunk, Refuses}
+use Rattle.heap_core.specs.ChunkCalls.{CanHandRound, GivesChunk, GivesNothing, GivesRound, HandsRound, HasNothing, IsAskedOf, PerformsChunk, Refuses}
 use Rattle.heap_core.specs.Heap.{run_places}
 use Rattle.heap_core.proofs.AskedLemmas.{is_performed, places_left}
 
@@ -46,7 +46,7 @@ module _ (ledger : Ledger) (thread number : ℕ) (stock : Stock) (asked : IsAske
   cpu_within = omega (arith, cpus_are, asked.legal.plan.header.cpus.0)
 
   -- a round that was held is a free one
-  pub can_hand : (round : ℕ) (left : List ℕ) → IsPermutation (held_rounds stock) (round ∷ left) → CanHand ledger thread number round
+  pub can_hand : (round : ℕ) (left : List ℕ) → IsPermutation (held_rounds stock) (round ∷ left) → CanHandRound ledger thread number round
   can_hand round left holds = record {
     legal = asked.legal;
     cache = asked.cache;

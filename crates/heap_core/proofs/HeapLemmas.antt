@@ -14,7 +14,7 @@ use Rattle.heap_books.specs.Places.{cache_count, stock_at, with_stock}
 use Rattle.heap_books.specs.Placed.{IsPlaced}
 use Rattle.heap_books.proofs.HoldLemmas.{places_hold}
 use Rattle.heap_books.proofs.PlacedLemmas.{placed_grow}
-use Rattle.heap_core.specs.ChunkCalls.{GivesChunk, IsAsked, IsAskedOf, PerformsChunk}
+use Rattle.heap_core.specs.ChunkCalls.{GivesChunk, IsChunkDue, IsAskedOf, PerformsChunk}
 use Rattle.heap_core.specs.Heap.{IsHeap, run_places}
 use Rattle.heap_core.specs.Performs.{PerformsCall}
 use Rattle.heap_core.proofs.AskedLemmas.{cache_is, is_known}
@@ -34,7 +34,7 @@ module _ (ledger : Ledger) (shelves : List Shelf) (is : IsHeap ledger shelves) w
       ap (λ (s : Shelf). s.stock) at ∙ sym (get_or-map (λ (s : Shelf). s.stock) shelves cache shelf (empty_stock 0 0) within)
       ∙ ap (λ (p : List Stock). get_or p cache (empty_stock 0 0)) is.are
 
-  module _ (thread number cache : ℕ) (asked : IsAsked ledger thread number cache) where
+  module _ (thread number cache : ℕ) (asked : IsChunkDue ledger thread number cache) where
     pub cache_within : cache < length shelves
     cache_within = omega (arith, shelves_are, is_known ledger thread number cache asked is.legal)
 

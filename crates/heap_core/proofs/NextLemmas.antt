@@ -17,7 +17,7 @@ use Rattle.heap_books.specs.Turns.{Makes, MakesReap, TakesReap, TakesTurn, due_o
 use Rattle.heap_books.proofs.PlacedLemmas.{placed_grow}
 use Rattle.heap_books.proofs.PlacingLemmas.{answers_change, reaps_change}
 use Rattle.heap_core.specs.Heap.{AreShelvesOf, IsHeap, run_places}
-use Rattle.heap_core.specs.Performs.{Performs, PerformsCall}
+use Rattle.heap_core.specs.Performs.{PerformsTurn, PerformsCall}
 use Rattle.heap_core.specs.Shelves.{KeepsHeap, reaped_shelf, stocks_of}
 use Rattle.heap_core.proofs.CallLemmas.{is_reap_op, large_alone, large_performs, plain_alone, plain_performs, reap_performs}
 use Rattle.heap_core.proofs.DueLemmas.{is_due, waits_not}
@@ -88,7 +88,7 @@ reap_heap old new shelves after thread number answer heap makes known are =
 -- ---- by the answer of a commit
 
 module _ (old new : Ledger) (thread number : ℕ) where
-  pub plain_turn : (turn : Turn) → IsSome (due_of is_plain_call old thread number) → TakesTurn is_plain_call old new thread number turn → Performs old new thread number turn
+  pub plain_turn : (turn : Turn) → IsSome (due_of is_plain_call old thread number) → TakesTurn is_plain_call old new thread number turn → PerformsTurn old new thread number turn
   plain_turn Behind due takes = absurd (waits_not is_plain_call old new thread number due takes)
   plain_turn (Made answer) due takes = plain_performs old new thread number answer takes
 
@@ -96,7 +96,7 @@ module _ (old new : Ledger) (thread number : ℕ) where
   plain_keeps Behind due takes known = absurd (waits_not is_plain_call old new thread number due takes)
   plain_keeps (Made answer) due takes known = λ shelves heap. plain_heap old new shelves thread number answer heap takes known
 
-  pub large_turn : (turn : Turn) → IsSome (due_of is_large old thread number) → TakesTurn is_large old new thread number turn → Performs old new thread number turn
+  pub large_turn : (turn : Turn) → IsSome (due_of is_large old thread number) → TakesTurn is_large old new thread number turn → PerformsTurn old new thread number turn
   large_turn Behind due takes = absurd (waits_not is_large old new thread number due takes)
   large_turn (Made answer) due takes = large_performs old new thread number answer takes
 
@@ -104,7 +104,7 @@ module _ (old new : Ledger) (thread number : ℕ) where
   large_keeps Behind due takes known = absurd (waits_not is_large old new thread number due takes)
   large_keeps (Made answer) due takes known = λ shelves heap. large_heap old new shelves thread number answer heap takes known
 
-  pub reap_turn : (turn : Turn) → IsSome (due_of is_reap_call old thread number) → TakesReap old new thread number turn → Performs old new thread number turn
+  pub reap_turn : (turn : Turn) → IsSome (due_of is_reap_call old thread number) → TakesReap old new thread number turn → PerformsTurn old new thread number turn
   reap_turn Behind due takes = absurd (waits_not is_reap_call old new thread number due takes)
   reap_turn (Made answer) due takes = reap_performs old new thread number answer takes
 

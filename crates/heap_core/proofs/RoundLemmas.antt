@@ -19,7 +19,7 @@ use Rattle.heap_books.specs.Places.{address_of}
 use Rattle.heap_books.specs.Turns.{IsTaken, MakesWith, Waits}
 use Rattle.heap_books.specs.Kinds.{is_chunk_call}
 use Rattle.heap_books.proofs.HoldLemmas.{numbers_tell}
-use Rattle.heap_core.specs.ChunkCalls.{CanHand, HandsRound}
+use Rattle.heap_core.specs.ChunkCalls.{CanHandRound, HandsRound}
 use Rattle.heap_core.proofs.AskedLemmas.{asks_cache, cache_reply, call_is, not_behind}
 
 -- the chunk of a free round
@@ -44,7 +44,7 @@ answer_is setting state cache reply.Redzone address told there = absurd there
 answer_is setting state cache reply.Fault address told there = absurd there
 answer_is setting state cache (reply.Word word) address told there = absurd there
 
-module _ (ledger : Ledger) (thread number round : ℕ) (can : CanHand ledger thread number round) where
+module _ (ledger : Ledger) (thread number round : ℕ) (can : CanHandRound ledger thread number round) where
   -- its chunk is no other's
   pub not_taken : (new : Ledger) → IsTaken ledger new thread number round → ⊥
   not_taken new is =

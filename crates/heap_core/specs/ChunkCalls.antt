@@ -19,7 +19,7 @@ use Rattle.heap_core.specs.Performs.{PerformsCall}
 -- ---- what is due
 
 -- a call is due that asks a chunk of a cache
-pub record IsAsked (ledger : Ledger) (thread number cache : ℕ) : Type 0 where
+pub record IsChunkDue (ledger : Ledger) (thread number cache : ℕ) : Type 0 where
   pub call : Call
   pub due : due_call ledger.plan ledger.entries thread number ≡ Some call
   pub asks : cache_asked call.op ≡ Some cache
@@ -28,7 +28,7 @@ pub record IsAsked (ledger : Ledger) (thread number cache : ℕ) : Type 0 where
 pub record IsAskedOf (ledger : Ledger) (thread number : ℕ) (stock : Stock) : Type 0 where
   pub legal : IsLedger ledger
   pub cache : ℕ
-  pub asked : IsAsked ledger thread number cache
+  pub asked : IsChunkDue ledger thread number cache
   pub known : cache < cache_count (run_setting ledger)
   pub there : stock ≡ stock_at (run_places ledger) cache
   pub its : IsStockOf (run_setting ledger) (run_state ledger) cache stock
@@ -36,10 +36,10 @@ pub record IsAskedOf (ledger : Ledger) (thread number : ℕ) (stock : Stock) : T
 -- ---- a round
 
 -- a chunk is asked of the cache of a free round
-pub record CanHand (ledger : Ledger) (thread number round : ℕ) : Type 0 where
+pub record CanHandRound (ledger : Ledger) (thread number round : ℕ) : Type 0 where
   pub legal : IsLedger ledger
   pub cache : ℕ
-  pub asked : IsAsked ledger thread number cache
+  pub asked : IsChunkDue ledger thread number cache
   pub free : IsFreeRound (run_setting ledger) (run_state ledger) cache round
 
 -- the call was answered with the chunk of a round
@@ -60,7 +60,7 @@ GivesRound old new thread number round (Made answer) = HandsRound old new thread
 pub record HasNothing (ledger : Ledger) (thread number : ℕ) : Type 0 where
   pub legal : IsLedger ledger
   pub cache : ℕ
-  pub asked : IsAsked ledger thread number cache
+  pub asked : IsChunkDue ledger thread number cache
   pub no_run : HasNoRunOf cache (run_setting ledger) (run_state ledger)
   pub none : (chunk : ℕ) → ¬ IsFreeRound (run_setting ledger) (run_state ledger) cache chunk
 
@@ -82,7 +82,7 @@ GivesNothing old new thread number (Made answer) = Refuses old new thread number
 pub record PerformsChunk (old new : Ledger) (thread number : ℕ) (stock : Stock) (answer : Reply) : Type 0 where
   pub performed : PerformsCall old new thread number answer
   pub cache : ℕ
-  pub asked : IsAsked old thread number cache
+  pub asked : IsChunkDue old thread number cache
   pub places : run_places new ≡ with_stock (run_places old) cache stock
 
 -- what an allocation gives that is due

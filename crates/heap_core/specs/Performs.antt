@@ -11,7 +11,7 @@ use Rattle.heap_books.specs.Performed.{IsPerformed}
 use Rattle.heap_core.specs.Heap.{run_places}
 
 -- the call is not the thread's next one, and nothing was made
-pub record IsBehind (old new : Ledger) (thread number : ℕ) : Type 0 where
+pub record WasBehind (old new : Ledger) (thread number : ℕ) : Type 0 where
   pub none : due_call old.plan old.entries thread number ≡ None
   pub same : new ≡ old
 
@@ -24,6 +24,6 @@ pub record PerformsCall (old new : Ledger) (thread number : ℕ) (answer : Reply
   pub made : new ≡ after_commit old thread inner call answer
 
 -- what performing a call gives
-abbrev pub Performs : Ledger → Ledger → ℕ → ℕ → Turn → Type 0
-Performs old new thread number Behind = IsBehind old new thread number
-Performs old new thread number (Made answer) = PerformsCall old new thread number answer
+abbrev pub PerformsTurn : Ledger → Ledger → ℕ → ℕ → Turn → Type 0
+PerformsTurn old new thread number Behind = WasBehind old new thread number
+PerformsTurn old new thread number (Made answer) = PerformsCall old new thread number answer

@@ -3,9 +3,9 @@ ghost use Rattle.heap_ledger.specs.Ledger.{run_setting};
 ghost use Rattle.shelf.specs.Steps.{taken_from};
 ghost use Rattle.heap_books.specs.Places.{cpu_of};
 ghost use Rattle.heap_books.specs.Turns.{HasNoRunFor};
-ghost use Rattle.heap_core.specs.ChunkCalls.{CanHand, GivesChunk, GivesNothing, GivesRound, HasNothing, IsAsked, IsAskedOf};
+ghost use Rattle.heap_core.specs.ChunkCalls.{CanHandRound, GivesChunk, GivesNothing, GivesRound, HasNothing, IsChunkDue, IsAskedOf};
 ghost use Rattle.heap_core.specs.Heap.{IsHeap};
-ghost use Rattle.heap_core.specs.Performs.{Performs};
+ghost use Rattle.heap_core.specs.Performs.{PerformsTurn};
 
 use crate::shelves::cpu_of;
 use heap_books::{Books, Fresh, Grown, Last, Tried, Turn};
@@ -27,8 +27,8 @@ pub fn perform_chunk(
     cache: u32,
 ) -> Result<Turn, NoMemory>
     requires heap { IsHeap books.old shelves.old }
-    requires due { IsAsked books.old thread call cache }
-    ensures ok { IfOk result (Performs books.old books.new thread call) }
+    requires due { IsChunkDue books.old thread call cache }
+    ensures ok { IfOk result (PerformsTurn books.old books.new thread call) }
     ensures err { OnErr result (books.new ≡ books.old) }
     ensures heap { IsHeap books.new shelves.new }
 {
@@ -112,7 +112,7 @@ fn hand_any(
 
 /// Answers it with the chunk of a free round.
 fn hand(books: &mut Books, thread: u32, call: u32, round: Round) -> Turn
-    requires { CanHand books.old thread call round }
+    requires { CanHandRound books.old thread call round }
     ensures { GivesRound books.old books.new thread call round result }
 {
     match books.commit_alloc(thread, call, round) {

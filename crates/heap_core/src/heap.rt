@@ -5,7 +5,7 @@ ghost use Rattle.plain_heap.specs.Calls.{IsFinished};
 ghost use Rattle.heap_ledger.specs.Ledger.{IsLedger, run_setting};
 ghost use Rattle.heap_books.specs.Finish.{GoesOn};
 ghost use Rattle.heap_books.specs.Placed.{IsPlaced};
-ghost use Rattle.heap_core.specs.Performs.{Performs};
+ghost use Rattle.heap_core.specs.Performs.{PerformsTurn};
 
 use crate::chunk_calls::perform_chunk;
 use crate::free_calls::perform_free;
@@ -75,7 +75,7 @@ impl Heap {
     /// Performs the call of a thread of that number, counted from 0 for each thread, of any kind. All memory is taken
     /// before the entries are made.
     pub fn perform(&mut self, alloc: Global, thread: u32, call: u32) -> Result<Turn, NoMemory>
-        ensures ok { IfOk result (Performs self.old self.new thread call) }
+        ensures ok { IfOk result (PerformsTurn self.old self.new thread call) }
         ensures err { OnErr result (self.new ≡ self.old) }
     {
         let Some(asked) = self.books.asked(thread, call) else {

@@ -2,7 +2,7 @@ ghost use Rattle.std.specs.Prelude.{IsSome};
 ghost use Rattle.heap_books.specs.Kinds.{is_reap_call};
 ghost use Rattle.heap_books.specs.Turns.{due_of};
 ghost use Rattle.heap_core.specs.Heap.{IsHeap};
-ghost use Rattle.heap_core.specs.Performs.{Performs};
+ghost use Rattle.heap_core.specs.Performs.{PerformsTurn};
 
 use crate::shelves::reap_shelves;
 use heap_books::{Books, Turn};
@@ -12,7 +12,7 @@ use shelf::Shelf;
 pub fn perform_reap(books: &mut Books, shelves: &mut [Shelf], thread: u32, call: u32) -> Turn
     requires heap { IsHeap books.old shelves.old }
     requires due { IsSome (due_of is_reap_call books.old thread call) }
-    ensures performs { Performs books.old books.new thread call result }
+    ensures performs { PerformsTurn books.old books.new thread call result }
     ensures heap { IsHeap books.new shelves.new }
 {
     let turn = books.commit_reap(thread, call);

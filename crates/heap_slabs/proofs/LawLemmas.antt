@@ -71,9 +71,9 @@ module _ (setting : Setting) (state : State) (separate : AreSeparate setting sta
       let page = free k less in
       let its = (All-contains (IsSpanWithin ARENA_BASE (arena_end setting.header.version)) (spans_of setting state) span separate.within there).page in
       let at : IsPage (base + PAGE_BYTES * k) = page.page in
-      let begins : span.base ≤ base + PAGE_BYTES * k = whole_pages span.base (base + PAGE_BYTES * k) address its at low (omega arith) in
+      let has_start : span.base ≤ base + PAGE_BYTES * k = whole_pages span.base (base + PAGE_BYTES * k) address its at low (omega arith) in
       let taken : is_taken setting state (base + PAGE_BYTES * k) ≡ true = list_any_at (is_in_span (base + PAGE_BYTES * k)) (spans_of setting state) there.0 span there.1
-      (ap (is_in_span (base + PAGE_BYTES * k)) there.2 ∙ in_span (base + PAGE_BYTES * k) span begins (omega (arith, high))) in
+      (ap (is_in_span (base + PAGE_BYTES * k)) there.2 ∙ in_span (base + PAGE_BYTES * k) span has_start (omega (arith, high))) in
       not_free (is_taken setting state (base + PAGE_BYTES * k)) taken page.untaken
     where
       not_free : (b : Bool) → b ≡ true → not b ≡ true → ⊥

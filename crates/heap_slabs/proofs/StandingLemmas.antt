@@ -18,7 +18,7 @@ use Rattle.plain_heap.proofs.PairsLemmas.{AllPairs-map, Contains-passing, Contai
 use Rattle.heap_slabs.specs.declared.numbered.Numbered.{Numbered}
 use Rattle.heap_slabs.specs.declared.place.Place.{Place}
 use Rattle.heap_slabs.specs.declared.standing.Standing.{Standing}
-use Rattle.heap_slabs.specs.Standing.{AreNumbered, AreStanding, BeginsAt, HasNumber, HasFree, HaveOtherNumbers, IsApartFrom, IsPlaceOf, IsStanding, begins, chunks_end, has_base, numbered, one_live_less, one_live_more, as_slab_at, with_given, with_taken}
+use Rattle.heap_slabs.specs.Standing.{AreNumbered, AreStanding, BeginsAt, HasNumber, HasFree, HaveOtherNumbers, IsApartFrom, IsPlaceOf, IsStanding, has_start, chunks_end, has_base, numbered, one_live_less, one_live_more, as_slab_at, with_given, with_taken}
 use Rattle.heap_slabs.proofs.Lists.{list_any_some, map_alike, passing_from, seen_from}
 
 -- what is looked up where no slab is
@@ -35,7 +35,7 @@ standing_none = record { each = λ k d lt. absurd (omega arith); apart = λ i j 
 
 -- ---- one slab
 
-pub begins-true : (address index : ℕ) (slab : Standing) → 0 < slab.chunk → BeginsAt address index slab → begins address slab ≡ true
+pub begins-true : (address index : ℕ) (slab : Standing) → 0 < slab.chunk → BeginsAt address index slab → has_start address slab ≡ true
 begins-true address index slab some h =
     let less : index * slab.chunk < slab.rounds * slab.chunk = mul-lt-mul_of_pos_right h.0 some in
     let offset : address - slab.start ≡ index * slab.chunk = omega (arith, h.1) in
@@ -49,7 +49,7 @@ index_told address index slab some h =
     let offset : address - slab.start ≡ index * slab.chunk = omega (arith, h.1) in
     ap (λ n. n / slab.chunk) offset ∙ mul-div_cancel index some
 
-pub begins-index : (address : ℕ) (slab : Standing) → 0 < slab.chunk → begins address slab ≡ true → (index : ℕ) × BeginsAt address index slab
+pub begins-index : (address : ℕ) (slab : Standing) → 0 < slab.chunk → has_start address slab ≡ true → (index : ℕ) × BeginsAt address index slab
 begins-index address slab some h =
     let both = and_parts _ _ h in
     let within = and_parts _ _ both.0 in
@@ -58,14 +58,14 @@ begins-index address slab some h =
     let behind : address - slab.start < slab.rounds * slab.chunk = omega arith in
     ((address - slab.start) / slab.chunk, ((div-lt_iff_lt-mul some).1 behind, sym (eqb-true _ _ both.1)))
 
-begins-below : (address : ℕ) (slab : Standing) → address < slab.start → begins address slab ≡ false
+begins-below : (address : ℕ) (slab : Standing) → address < slab.start → has_start address slab ≡ false
 begins-below address slab less = and_left _ _ (and_left _ _ (lt-leb slab.start address less))
 
-begins-behind : (address : ℕ) (slab : Standing) → chunks_end slab ≤ address → begins address slab ≡ false
+begins-behind : (address : ℕ) (slab : Standing) → chunks_end slab ≤ address → has_start address slab ≡ false
 begins-behind address slab less = and_left _ _ (and_right _ _ (le-ltb address (slab.start + slab.rounds * slab.chunk) less))
 
 -- what begins in a slab lies in it
-pub begins_inside : (address : ℕ) (slab : Standing) → begins address slab ≡ true → (slab.start ≤ address) × (address < chunks_end slab)
+pub begins_inside : (address : ℕ) (slab : Standing) → has_start address slab ≡ true → (slab.start ≤ address) × (address < chunks_end slab)
 begins_inside address slab h =
     let within = and_parts _ _ (and_parts _ _ h).0 in
     (leb-true slab.start address within.0, ltb-true address (slab.start + slab.rounds * slab.chunk) within.1)
@@ -100,27 +100,27 @@ first_le numbers i k d rise le lt = elim (cases_lt i k) [
 
 -- ---- where a chunk is looked up
 
-pub none_below : (slabs : List Standing) (address : ℕ) → AreStanding slabs → ((k : ℕ) (d : Standing) → 0 ≤ k → k < length slabs → address < (get_or slabs k d).base) → All (λ slab. begins address slab ≡ false) slabs
+pub none_below : (slabs : List Standing) (address : ℕ) → AreStanding slabs → ((k : ℕ) (d : Standing) → 0 ≤ k → k < length slabs → address < (get_or slabs k d).base) → All (λ slab. has_start address slab ≡ false) slabs
 none_below slabs address is above k d lt = begins-below address (get_or slabs k d) (omega (arith, above k d (omega arith) lt, (is.each k d lt).from))
 
 -- no other slab has it than the last that begins below
 pub none_beside : (slabs : List Standing) (address i k : ℕ) (d : Standing) → AreStanding slabs → i < length slabs → k < length slabs → k ≢ i → ((d : Standing) → (get_or slabs i d).base ≤ address)
-    → ((j : ℕ) (d : Standing) → i + 1 ≤ j → j < length slabs → address < (get_or slabs j d).base) → begins address (get_or slabs k d) ≡ false
+    → ((j : ℕ) (d : Standing) → i + 1 ≤ j → j < length slabs → address < (get_or slabs j d).base) → has_start address (get_or slabs k d) ≡ false
 none_beside slabs address i k d is il kl ne below above = elim (cases_order k i) [
   | inl same ↦ absurd (ne same)
   | inr (inl less) ↦ begins-behind address (get_or slabs k d) (omega (arith, is.apart k i d less il, below d))
   | inr (inr more) ↦ begins-below address (get_or slabs k d) (omega (arith, above k d (omega arith) kl, (is.each k d kl).from))
 ]
 
-pub none_at : (slabs : List Standing) (address i : ℕ) (e : Standing) → AreStanding slabs → i < length slabs → begins address (get_or slabs i e) ≡ false → ((d : Standing) → (get_or slabs i d).base ≤ address)
-    → ((j : ℕ) (d : Standing) → i + 1 ≤ j → j < length slabs → address < (get_or slabs j d).base) → All (λ s. begins address s ≡ false) slabs
+pub none_at : (slabs : List Standing) (address i : ℕ) (e : Standing) → AreStanding slabs → i < length slabs → has_start address (get_or slabs i e) ≡ false → ((d : Standing) → (get_or slabs i d).base ≤ address)
+    → ((j : ℕ) (d : Standing) → i + 1 ≤ j → j < length slabs → address < (get_or slabs j d).base) → All (λ s. has_start address s ≡ false) slabs
 none_at slabs address i e is il none below above k d kl = elim (cases_eq k i) [
   | inl same ↦ rw (same, get_or_default slabs i d e il) none
   | inr ne ↦ none_beside slabs address i k d is il kl ne below above
 ]
 
 -- a chunk begins in one slab alone
-pub begins_alone : (slabs : List Standing) (address : ℕ) (one other : Standing) → AreStanding slabs → Contains slabs one → Contains slabs other → begins address one ≡ true → begins address other ≡ true → one ≡ other
+pub begins_alone : (slabs : List Standing) (address : ℕ) (one other : Standing) → AreStanding slabs → Contains slabs one → Contains slabs other → has_start address one ≡ true → has_start address other ≡ true → one ≡ other
 begins_alone slabs address one other is h g mine its =
     let here = begins_inside address one mine in
     let there = begins_inside address other its in
@@ -267,14 +267,14 @@ taken_by true s = more_by (ltb s.live s.rounds) s
 taken_by false s = (s.live, refl)
 
 pub taken_keeps : (address : ℕ) (s : Standing) → (n : ℕ) × (with_taken address s ≡ record s { live = n })
-taken_keeps address s = taken_by (begins address s) s
+taken_keeps address s = taken_by (has_start address s) s
 
 given_by : (b : Bool) (s : Standing) → (n : ℕ) × (cond b (one_live_less s) s ≡ relived s n)
 given_by true s = (s.live - 1, refl)
 given_by false s = (s.live, refl)
 
 pub given_keeps : (address : ℕ) (s : Standing) → (n : ℕ) × (with_given address s ≡ record s { live = n })
-given_keeps address s = given_by (begins address s) s
+given_keeps address s = given_by (has_start address s) s
 
 -- a function that changes counts alone
 module _ (f : Standing → Standing) (kept : (s : Standing) → (n : ℕ) × (f s ≡ (record s { live = n }))) where
@@ -314,16 +314,16 @@ module _ (f : Standing → Standing) (kept : (s : Standing) → (n : ℕ) × (f 
 
 -- one slab is changed, in which a chunk begins
 pub changed_there : (g : Standing → Standing) (slabs : List Standing) (address : ℕ) (place : Place) (z : Standing) → AreStanding slabs → IsPlaceOf address slabs place
-    → set slabs place.slab (g (get_or slabs place.slab z)) ≡ map (λ s. cond (begins address s) (g s) s) slabs
+    → set slabs place.slab (g (get_or slabs place.slab z)) ≡ map (λ s. cond (has_start address s) (g s) s) slabs
 changed_there g slabs address place z is at =
     let some : (d : Standing) → 0 < (get_or slabs place.slab d).chunk = λ d. (is.each place.slab d at.0).chunk in
-    let here : (d : Standing) → begins address (get_or slabs place.slab d) ≡ true = λ d. begins-true address place.index (get_or slabs place.slab d) (some d) (at.1 d) in
-    sym (map_one (λ s. cond (begins address s) (g s) s) slabs place.slab (g (get_or slabs place.slab z)) at.0
+    let here : (d : Standing) → has_start address (get_or slabs place.slab d) ≡ true = λ d. begins-true address place.index (get_or slabs place.slab d) (some d) (at.1 d) in
+    sym (map_one (λ s. cond (has_start address s) (g s) s) slabs place.slab (g (get_or slabs place.slab z)) at.0
     (λ d.
     ap (λ (b : Bool). cond b (g (get_or slabs place.slab d)) (get_or slabs place.slab d)) (here d) ∙ ap g (get_or_default slabs place.slab d z at.0))
     (λ k d kl ne. ap (λ (b : Bool). cond b (g (get_or slabs k d)) (get_or slabs k d)) (beside k d kl ne (here d))))
   where
-    beside : (k : ℕ) (d : Standing) → k < length slabs → k ≢ place.slab → begins address (get_or slabs place.slab d) ≡ true → begins address (get_or slabs k d) ≡ false
+    beside : (k : ℕ) (d : Standing) → k < length slabs → k ≢ place.slab → has_start address (get_or slabs place.slab d) ≡ true → has_start address (get_or slabs k d) ≡ false
     beside k d kl ne here =
         let inside = begins_inside address (get_or slabs place.slab d) here in
         elim (cases_order k place.slab) [
@@ -332,8 +332,8 @@ changed_there g slabs address place z is at =
           | inr (inr more) ↦ begins-below address (get_or slabs k d) (omega (arith, is.apart place.slab k d more kl, inside.1, (is.each k d kl).from))
         ]
 
-pub changed_nowhere : (g : Standing → Standing) (slabs : List Standing) (address : ℕ) → All (λ s. begins address s ≡ false) slabs → slabs ≡ map (λ s. cond (begins address s) (g s) s) slabs
-changed_nowhere g slabs address none = sym (map_none (λ s. cond (begins address s) (g s) s) slabs (λ k d lt. ap (λ (b : Bool). cond b (g (get_or slabs k d)) (get_or slabs k d)) (none k d lt)))
+pub changed_nowhere : (g : Standing → Standing) (slabs : List Standing) (address : ℕ) → All (λ s. has_start address s ≡ false) slabs → slabs ≡ map (λ s. cond (has_start address s) (g s) s) slabs
+changed_nowhere g slabs address none = sym (map_none (λ s. cond (has_start address s) (g s) s) slabs (λ k d lt. ap (λ (b : Bool). cond b (g (get_or slabs k d)) (get_or slabs k d)) (none k d lt)))
 
 -- ---- a slab more
 

@@ -31,7 +31,7 @@ use Rattle.heap_slabs.specs.declared.cache_slabs.CacheSlabs.{CacheSlabs}
 use Rattle.heap_slabs.specs.declared.placed.Placed.{Placed}
 use Rattle.heap_slabs.specs.declared.standing.Standing.{Standing}
 use Rattle.heap_slabs.specs.Chunks.{HasNoChunk, IsNumberedAs, placed_at}
-use Rattle.heap_slabs.specs.Standing.{AreStanding, BeginsAt, HasNumber, HasNumberAt, IsStanding, begins, one_live_more, as_slab_at, with_given, with_taken}
+use Rattle.heap_slabs.specs.Standing.{AreStanding, BeginsAt, HasNumber, HasNumberAt, IsStanding, has_start, one_live_more, as_slab_at, with_given, with_taken}
 use Rattle.heap_slabs.specs.HeapSlabs.{AreCacheSlabs, AreFirst, AreStandingIn, IsTableOf, HeapSlabs, cache_slabs_in, live_chunks, no_slabs, slabs_of, standing_in}
 use Rattle.heap_slabs.proofs.Lists.{find_none, find_some, map_alike, seen_alike, seen_from, tally-alike, tally-fewer, tally-more, tally-none, tally-one}
 use Rattle.heap_slabs.proofs.StandingLemmas.{begins-index, begins-true, begins_alone, index_told}
@@ -102,7 +102,7 @@ begins_either : (setting : Setting) (slab : HeapSlab) (address index : ℕ) (b :
 begins_either setting slab address index true = ap (λ n. eqb n address) (start_along setting slab index)
 begins_either setting slab address index false = refl
 
-pub begins_is : (setting : Setting) (state : State) (slab : HeapSlab) (address : ℕ) → begins address (standing_in setting state slab) ≡ begins_chunk setting slab address
+pub begins_is : (setting : Setting) (state : State) (slab : HeapSlab) (address : ℕ) → has_start address (standing_in setting state slab) ≡ begins_chunk setting slab address
 begins_is setting state slab address =
     let g = geometry_in setting slab.cache in
     begins_either setting slab address ((address - chunk_start setting slab 0) / g.chunk) (is_within (chunk_start setting slab 0) (g.rounds * g.chunk) address)
@@ -130,10 +130,10 @@ module _ (setting : Setting) (state : State) (table : HeapSlabs) (is : IsTableOf
 
   -- ---- look-ups
 
-  pub none_placed : (address : ℕ) → All (λ slab. begins address slab ≡ false) table.slabs → None ≡ placed_at setting state address
+  pub none_placed : (address : ℕ) → All (λ slab. has_start address slab ≡ false) table.slabs → None ≡ placed_at setting state address
   none_placed address none =
       let missing : slab_with_chunk setting state.slabs address ≡ None = find_none (λ (h : HeapSlab). begins_chunk setting h address) state.slabs (λ h stands.
-      sym (begins_is setting state h address) ∙ All-contains (λ (s : Standing). begins address s ≡ false) table.slabs (standing_in setting state h) none (of_state h stands)) in
+      sym (begins_is setting state h address) ∙ All-contains (λ (s : Standing). has_start address s ≡ false) table.slabs (standing_in setting state h) none (of_state h stands)) in
       sym (ap (λ (found : Option HeapSlab). option_map (λ (h : HeapSlab). placed_in h) found) missing)
     where
       placed_in : HeapSlab → Placed
@@ -144,8 +144,8 @@ module _ (setting : Setting) (state : State) (table : HeapSlabs) (is : IsTableOf
   found_placed address index slab header sound there at =
       let some = (All-contains IsStanding table.slabs slab sound.each there).chunk in
       let h = of_table slab there in
-      let mine : begins address slab ≡ true = begins-true address index slab some at in
-      let passes : begins_chunk setting h.0 address ≡ true = sym (begins_is setting state h.0 address) ∙ ap (begins address) h.2 ∙ mine in
+      let mine : has_start address slab ≡ true = begins-true address index slab some at in
+      let passes : begins_chunk setting h.0 address ≡ true = sym (begins_is setting state h.0 address) ∙ ap (has_start address) h.2 ∙ mine in
       let found = find_some (λ (g : HeapSlab). begins_chunk setting g address) state.slabs h.0 h.1 passes in
       let same : standing_in setting state found.0 ≡ slab =
       begins_alone table.slabs address (standing_in setting state found.0) slab sound (of_state found.0 found.2) there (begins_is setting state found.0 address ∙ found.3) mine in
@@ -248,19 +248,19 @@ stays setting state next table is slabs grown same =
 -- ---- a buffer that comes, and one that goes
 
 -- the chunk of a slab that begins at an address, if one does
-which : (setting : Setting) (state : State) (h : HeapSlab) (address : ℕ) → IsHeader setting.header → begins address (standing_in setting state h) ≡ true
+which : (setting : Setting) (state : State) (h : HeapSlab) (address : ℕ) → IsHeader setting.header → has_start address (standing_in setting state h) ≡ true
     → (index : ℕ) × (index < (geometry_in setting h.cache).rounds) × (address ≡ chunk_start setting h index)
 which setting state h address header is =
     let at = begins-index address (standing_in setting state h) (chunk_some setting h.cache header) is in (at.0, at.1.0, at.1.1 ∙ start_along setting h at.0)
 
-elsewhere : (setting : Setting) (state : State) (h : HeapSlab) (address index : ℕ) → IsHeader setting.header → begins address (standing_in setting state h) ≡ false → index < (geometry_in setting h.cache).rounds
+elsewhere : (setting : Setting) (state : State) (h : HeapSlab) (address index : ℕ) → IsHeader setting.header → has_start address (standing_in setting state h) ≡ false → index < (geometry_in setting h.cache).rounds
     → eqb address (chunk_start setting h index) ≡ false
 elsewhere setting state h address index header isnt lt = ne_eqb address (chunk_start setting h index) (λ e.
     true≢false (sym (begins-true address index (standing_in setting state h) (chunk_some setting h.cache header) (lt, e ∙ sym (start_along setting h index))) ∙ isnt))
 
 pub taken_stands : (setting : Setting) (state : State) (address : ℕ) (held : Held) (zeroed : Bool) (h : HeapSlab) → IsHeader setting.header → held_at state.live address ≡ None
     → standing_in setting (hand_out setting state address held zeroed) h ≡ with_taken address (standing_in setting state h)
-taken_stands setting state address held zeroed h header free = elim (cases_Bool (begins address s)) [
+taken_stands setting state address held zeroed h header free = elim (cases_Bool (has_start address s)) [
   | inl is ↦
       let at = which setting state h address header is in
       let off : p at.0 ≡ false = ap (is_live state) (sym at.2) ∙ none_lives (held_at state.live address) free in
@@ -294,7 +294,7 @@ taken_stands setting state address held zeroed h header free = elim (cases_Bool 
 
 pub given_stands : (setting : Setting) (state : State) (address : ℕ) (h : HeapSlab) → IsHeader setting.header → is_live state address ≡ true
     → standing_in setting (give_back setting state address) h ≡ with_given address (standing_in setting state h)
-given_stands setting state address h header lives = elim (cases_Bool (begins address s)) [
+given_stands setting state address h header lives = elim (cases_Bool (has_start address s)) [
   | inl is ↦
       let at = which setting state h address header is in
       let on : p at.0 ≡ true = ap (is_live state) (sym at.2) ∙ lives in

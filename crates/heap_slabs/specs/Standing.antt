@@ -35,8 +35,8 @@ abbrev pub BeginsAt : ℕ → ℕ → Standing → Type 0
 BeginsAt address index slab = (index < slab.rounds) × (address ≡ slab.start + index * slab.chunk)
 
 -- a chunk begins at an address, as a test
-abbrev pub begins : ℕ → Standing → Bool
-begins address slab =
+abbrev pub has_start : ℕ → Standing → Bool
+has_start address slab =
     is_within slab.start (slab.rounds * slab.chunk) address
     && (slab.start + (address - slab.start) / slab.chunk * slab.chunk == address)
 
@@ -71,11 +71,11 @@ one_live_less slab = record slab { live = slab.live - 1 }
 
 -- the slab after the chunk that begins at an address has come to live, if one of its own does
 abbrev pub with_taken : ℕ → Standing → Standing
-with_taken address slab = if begins address slab then one_live_more slab else slab
+with_taken address slab = if has_start address slab then one_live_more slab else slab
 
 -- the slab after the chunk that begins at an address lives no more, if one of its own does
 abbrev pub with_given : ℕ → Standing → Standing
-with_given address slab = if begins address slab then one_live_less slab else slab
+with_given address slab = if has_start address slab then one_live_less slab else slab
 
 -- ---- free chunks
 

@@ -1,6 +1,6 @@
 ghost use Rattle.std.specs.Prelude.{◌≡◌, ◌<◌, ◌≤◌, ◌+◌, ◌^◌, false, All, AllPairs, MatchOption};
 ghost use Rattle.umem_base.specs.Ordered.{SplitsBy};
-ghost use Rattle.heap_slabs.specs.Standing.{AreNumbered, AreStanding, BeginsAt, HasNumber, HasNumberAt, IsPlaceOf, IsPlaceOfNumber, IsStanding, begins};
+ghost use Rattle.heap_slabs.specs.Standing.{AreNumbered, AreStanding, BeginsAt, HasNumber, HasNumberAt, IsPlaceOf, IsPlaceOfNumber, IsStanding, has_start};
 
 use crate::numbered::Numbered;
 use crate::place::Place;
@@ -9,7 +9,7 @@ use crate::standing::Standing;
 /// The index of the chunk of a slab that begins at the address, or `None` where none does.
 pub fn index_in(slab: &Standing, address: u64) -> Option<u32>
     requires { IsStanding slab.now }
-    ensures { MatchOption result (begins address slab.now ≡ false) (λ index. BeginsAt address index slab.now) }
+    ensures { MatchOption result (has_start address slab.now ≡ false) (λ index. BeginsAt address index slab.now) }
 {
     if address < slab.start {
         return None;
@@ -43,7 +43,8 @@ pub fn count_to(slabs: &[Standing], address: u64) -> usize
 /// Where the chunk stands that begins at the address. It looks among the slabs by halves.
 pub fn place_of(slabs: &[Standing], address: u64) -> Option<Place>
     requires { AreStanding slabs.now }
-    ensures { MatchOption result (All (λ slab. begins address slab ≡ false) slabs.now) (IsPlaceOf address slabs.now) }
+    ensures { MatchOption result (All (λ slab. has_start address slab ≡ false) slabs.now)
+        (IsPlaceOf address slabs.now) }
 {
     let count = count_to(slabs, address);
     if count == 0 {

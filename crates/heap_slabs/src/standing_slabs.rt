@@ -2,7 +2,7 @@ ghost use Rattle.std.specs.Prelude.{◌≡◌, ◌+◌, ◌-◌, ◌<◌, [], ma
 ghost use Rattle.std.specs.List.Sorted.{IsPermutation};
 ghost use Rattle.umem_base.specs.Ordered.{put_by};
 ghost use Rattle.heap_ledger.specs.Commits.{GoesBefore};
-ghost use Rattle.heap_slabs.specs.Standing.{AreStanding, HasNumber, IsApartFrom, IsPlaceOf, IsPlaceOfNumber, IsStanding, begins, is_idle, as_slab_at, with_given, with_taken};
+ghost use Rattle.heap_slabs.specs.Standing.{AreStanding, HasNumber, IsApartFrom, IsPlaceOf, IsPlaceOfNumber, IsStanding, has_start, is_idle, as_slab_at, with_given, with_taken};
 
 use crate::as_slab_at::as_slab_at;
 use crate::counts::{one_live_less, one_live_more};
@@ -110,7 +110,7 @@ impl StandingSlabs {
 
     /// Where the chunk stands that begins at the address.
     pub fn place_of(&self, address: u64) -> Option<Place>
-        ensures { MatchOption result (All (λ slab. begins address slab ≡ false) self.now.slabs)
+        ensures { MatchOption result (All (λ slab. has_start address slab ≡ false) self.now.slabs)
             (IsPlaceOf address self.now.slabs) }
     {
         place_of(&self.slabs, address)
