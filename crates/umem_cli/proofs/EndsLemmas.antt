@@ -4,6 +4,8 @@ use Rattle.std.specs.Io.KnownBytes.{Appends}
 use Rattle.std.proofs.lemmas.List.{append-nil}
 use Rattle.umem_cli.specs.declared.refusal.Refusal.{Refusal}
 use Rattle.umem_cli.specs.declared.status.Status.{Status}
+use Rattle.umem_cli.specs.declared.refusal.Refusal.TheVariants as refusal
+use Rattle.umem_cli.specs.declared.status.Status.TheVariants as status
 use Rattle.umem_cli.specs.Messages.{message_text}
 use Rattle.umem_cli.specs.Pieces.{Delivers, DeliversPiece, Ends, FailsAt, FailsPiece, Piece, for_err, for_out, refused}
 use Rattle.umem_cli.specs.Refusal.{status_of}
@@ -32,6 +34,10 @@ pub says_err : (before after : Streams) (bytes : List ℕ) (wanted result : Stat
     → Ends before after (record { pieces = for_err bytes ∷ []; status = wanted }) result
 says_err before after bytes wanted result (inl done) same = inl (done.0, (after, (same, done.1), refl))
 says_err before after bytes wanted result (inr failed) same = inr (failed.0, inl (same, failed.1))
+
+-- want of memory has no line
+pub no_line : (both : Streams) (name : List ℕ) → Ends both both (refused name refusal.NoMemory) status.NoMemory
+no_line both name = inl (refl, (both, (refl, takes_nothing both.err), refl))
 
 -- a piece more
 pub delivers_more : (before between after : Streams) (pieces : List Piece) (piece : Piece) → Delivers before between pieces → DeliversPiece between after piece → Delivers before after (pieces ++ piece ∷ [])

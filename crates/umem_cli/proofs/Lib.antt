@@ -1,9 +1,6 @@
-pub mod MeaningLemmas
-pub mod TablesLemmas
-pub mod RunLemmas
-pub mod RunnableLemmas
 pub mod MessagesLemmas
 pub mod EndsLemmas
+pub mod CachesLemmas
 pub mod TranscriptLemmas
 pub mod CoreLemmas
 pub mod LineLemmas

@@ -10,7 +10,7 @@ use Rattle.dcmd.specs.Commands.{command_of}
 use Rattle.umem_cli.specs.declared.status.Status.{Status}
 use Rattle.umem_cli.specs.declared.status.Status.TheVariants.{WriteFault}
 use Rattle.umem_cli.specs.Messages.{line_message}
-use Rattle.umem_cli.specs.Outcomes.{Answers, EndsAnswer, EndsLine}
+use Rattle.umem_cli.specs.Outcomes.{EndsAnswer, EndsLine, TellsAnswerSo}
 use Rattle.umem_cli.specs.Pieces.{for_err, for_out}
 use Rattle.umem_cli.specs.Sessions.{AnswersLine, is_refused}
 use Rattle.umem_cli.specs.Streams.{Stream, Streams, Takes, TakesFront}
@@ -34,7 +34,7 @@ some_word line (Some parts) none tells is splits = record { word = parts.0.now; 
 pub skipped : (core : Core) (number : ℕ) (line : List ℕ) (both : Streams) → words_of line ≡ [] → EndsLine core number line both both (Ok false)
 skipped core number line both none = ((for_out [], rw none refl, delivers_nothing both), rw none refl)
 
-answers_so : (core : Core) (number : ℕ) (line : List ℕ) (dcmd : Dcmd) (Goes : List ℕ → Type 0) → HasWord line → command_of line ≡ Ok dcmd → (told : Answers core dcmd Goes) → AnswersLine core number line (for_out told.0)
+answers_so : (core : Core) (number : ℕ) (line : List ℕ) (dcmd : Dcmd) (Goes : List ℕ → Type 0) → HasWord line → command_of line ≡ Ok dcmd → (told : TellsAnswerSo core dcmd Goes) → AnswersLine core number line (for_out told.0)
 answers_so core number line dcmd Goes has is told = rw (has.are, is) (told.0, told.1, refl)
 
 -- an answer that was written

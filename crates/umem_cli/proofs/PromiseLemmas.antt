@@ -1,6 +1,6 @@
 -- What a call gives out is whole where nothing failed.
 use Rattle.std.proofs.Common.{◌≡◌, ◌⊎◌, inl, inr, ℕ, ◌<◌, ◌≤◌, Bool, true, false, List, [], ◌∷◌, length, Option, Some, None, refl, sym, ap, subst, ◌∙◌, arith, nat_lt}
-use Rattle.std.specs.Prelude.{Ok, Err}
+use Rattle.std.specs.Prelude.{Ok, Err, is_some}
 use Rattle.std.specs.List.{list_any}
 use Rattle.std.proofs.lemmas.Bool.Decides.{nat_tests}
 use Rattle.umem_base.specs.Faults.{Rose}
@@ -9,25 +9,31 @@ use Rattle.umem_base.specs.Lines.{lines_of}
 use Rattle.umem_base.specs.Transfer.{Are, Exceed}
 use Rattle.core_format.specs.declared.whole.Core.{Core}
 use Rattle.core_format.specs.Cores.{core_of}
+use Rattle.umem_options.specs.declared.options.Options.{Options}
+use Rattle.umem_options.specs.Flags.{has_guards}
 use Rattle.script.specs.Grammar.{script_of}
-use Rattle.script.specs.Plan.{Plan}
 use Rattle.umem_cli.specs.declared.limits.TheConstants.{MOST_COMMAND_BYTES, MOST_CORE_BYTES}
 use Rattle.umem_cli.specs.declared.refusal.Refusal.{Refusal}
 use Rattle.umem_cli.specs.declared.refusal.Refusal.TheVariants as refusal
 use Rattle.umem_cli.specs.declared.status.Status.{Status}
 use Rattle.umem_cli.specs.declared.status.Status.TheVariants.{Done, NoMemory, Refused, Usage}
-use Rattle.umem_cli.specs.Asked.{Task, mdb, none, run}
-use Rattle.umem_cli.specs.Histories.{CanRun}
+use Rattle.umem_words.specs.declared.job.Job.{Job}
+use Rattle.umem_words.specs.declared.job.Job.TheVariants.{Make, Mdb, Run}
+use Rattle.umem_words.specs.declared.make_job.MakeJob.{MakeJob}
+use Rattle.umem_words.specs.declared.mdb_job.MdbJob.{MdbJob}
+use Rattle.umem_words.specs.declared.run_job.RunJob.{RunJob}
+use Rattle.umem_words.specs.Jobs.{job_of}
+use Rattle.umem_cli.specs.Asked.{Task, mdb, none, run, run_served, served, task_of}
+use Rattle.umem_cli.specs.Pieces.{DeliversPiece, Ends, FailsAt, GivesOut, Piece, Wanted, for_err, for_out, refused}
 use Rattle.umem_cli.specs.Messages.{usage_text}
 use Rattle.umem_cli.specs.Outcomes.{SaysUsage}
-use Rattle.umem_cli.specs.Pieces.{DeliversPiece, Ends, FailsAt, Gives, Piece, Wanted, for_err, for_out, refused}
-use Rattle.umem_cli.specs.Promise.{IsCoreThere, IsScriptThere, IsStatusOf, IsWanted, IsWholeOf, commands_status}
+use Rattle.umem_cli.specs.Promise.{GivenOut, IsCoreThere, IsScriptThere, IsStatusOf, IsWanted, IsWholeOf, commands_status, nothing, usage}
 use Rattle.umem_cli.specs.Refusal.{status_of}
-use Rattle.umem_cli.specs.Sessions.{GivenByMdb, IsCommandsCause, IsCoreCause, WantsMdb, answered, is_refused}
+use Rattle.umem_cli.specs.Sessions.{IsCommandsCause, IsCoreCause, WantsMdb, answered, is_refused}
 use Rattle.umem_cli.specs.Streams.{Streams}
-use Rattle.umem_cli.specs.Transcripts.{GivenByRun, IsRunCause, WantsRun}
-use Rattle.umem_cli.specs.World.{HasNoFault, World, without_input, world}
-use Rattle.umem_cli.proofs.EndsLemmas.{says_err, takes_nothing}
+use Rattle.umem_cli.specs.Transcripts.{GivenByRun, IsRunCause, IsTranscript, WantsRun}
+use Rattle.umem_cli.specs.World.{HasNoFault, KeepsInput, World}
+use Rattle.umem_cli.proofs.EndsLemmas.{no_line, says_err}
 
 -- ---- a write that failed has raised a count
 
@@ -47,8 +53,8 @@ no_failure before after (for_err bytes ∷ pieces) out err (inr later) =
     no_failure later.0 after pieces (subst (λ (n : ℕ). Rose n after.out.faults → ⊥) (sym kept.0) out) (subst (λ (n : ℕ). Rose n after.err.faults → ⊥) (sym kept.1) err) later.2
 
 ended_so : (before after : World) (wanted : Wanted) (status : Status) → HasNoFault before after → Ends before.streams after.streams wanted status → status ≡ wanted.status
-ended_so before after wanted status still (inl done) = done.0
-ended_so before after wanted status still (inr failed) = absurd (no_failure before.streams after.streams wanted.pieces still.out still.err failed.1)
+ended_so before after wanted status calm (inl done) = done.0
+ended_so before after wanted status calm (inr failed) = absurd (no_failure before.streams after.streams wanted.pieces calm.out calm.err failed.1)
 
 -- ---- files that are told
 
@@ -69,55 +75,49 @@ not_longer (Some known) bytes is short long =
 -- ---- a run
 
 run_cause : (name : List ℕ) (before : World) (after : ℕ) (why : Refusal) → IsScriptThere name before → (Rose before.read_faults after → ⊥) → IsRunCause before.files name before.read_faults after why → status_of why ≡ NoMemory
-run_cause name before after (refusal.BadScript line reason) there still cause =
+run_cause name before after (refusal.BadScript line reason) there calm cause =
     let same = told (bytes_of before.files name) there.bytes cause.0.bytes there.file cause.0.read in
     absurd (cc (subst (λ l. script_of l ≡ Ok there.plan) same there.spelled, cause.0.bad))
-run_cause name before after refusal.NoScript there still cause =
-    let same = told (bytes_of before.files name) there.bytes cause.0.bytes there.file cause.0.read in
-    let plan : there.plan ≡ cause.0.plan = cc (subst (λ l. script_of l ≡ Ok there.plan) same there.spelled, cause.0.spelled) in
-    absurd (cause.0.other (subst CanRun plan there.runnable))
-run_cause name before after refusal.CoreTooLong there still cause = absurd cause
-run_cause name before after (refusal.BadCore offset fault) there still cause = absurd cause
-run_cause name before after refusal.NoFile there still cause = absurd (not_lacking before.files name there.bytes there.file cause.0)
-run_cause name before after refusal.ReadFault there still cause = absurd (still cause)
-run_cause name before after refusal.CommandsFault there still cause = absurd cause
-run_cause name before after refusal.CommandsTooLong there still cause = absurd cause
-run_cause name before after refusal.NoMemory there still cause = refl
+run_cause name before after refusal.CoreTooLong there calm cause = absurd cause
+run_cause name before after (refusal.BadCore offset fault) there calm cause = absurd cause
+run_cause name before after refusal.NoFile there calm cause = absurd (not_lacking before.files name there.bytes there.file cause.0)
+run_cause name before after refusal.ReadFault there calm cause = absurd (calm cause)
+run_cause name before after refusal.CommandsFault there calm cause = absurd cause
+run_cause name before after refusal.CommandsTooLong there calm cause = absurd cause
+run_cause name before after refusal.NoMemory there calm cause = refl
 
-run_status : (name : List ℕ) (before after : World) (wanted : Wanted) → IsScriptThere name before → HasNoFault before after → WantsRun name before after wanted → (wanted.status ≡ Done) ⊎ (wanted.status ≡ NoMemory)
-run_status name before after wanted there still (inl text) = inl (ap (λ w. w.status) text.wants)
-run_status name before after wanted there still (inr refusal) =
-    inr (ap (λ w. w.status) refusal.wants ∙ run_cause name before after.read_faults refusal.why there still.reads refusal.cause)
+run_status : (guards : Bool) (name : List ℕ) (before after : World) (wanted : Wanted) → IsScriptThere name before → HasNoFault before after → WantsRun guards name before after wanted → (wanted.status ≡ Done) ⊎ (wanted.status ≡ NoMemory)
+run_status guards name before after wanted there calm (inl text) = inl (ap (λ w. w.status) text.wants)
+run_status guards name before after wanted there calm (inr refusal) =
+    inr (ap (λ w. w.status) refusal.wants ∙ run_cause name before after.read_faults refusal.why there calm.reads refusal.cause)
 
 -- ---- commands over a core
 
 core_cause : (name : List ℕ) (before : World) (after : ℕ) (why : Refusal) → IsCoreThere name before → (Rose before.read_faults after → ⊥) → IsCoreCause before.files name before.read_faults after why → status_of why ≡ NoMemory
-core_cause name before after (refusal.BadScript line reason) there still cause = absurd cause
-core_cause name before after refusal.NoScript there still cause = absurd cause
-core_cause name before after refusal.CoreTooLong there still cause = absurd (not_longer (bytes_of before.files name) there.bytes there.file there.short cause.1)
-core_cause name before after (refusal.BadCore offset fault) there still cause =
+core_cause name before after (refusal.BadScript line reason) there calm cause = absurd cause
+core_cause name before after refusal.CoreTooLong there calm cause = absurd (not_longer (bytes_of before.files name) there.bytes there.file there.short cause.1)
+core_cause name before after (refusal.BadCore offset fault) there calm cause =
     let same = told (bytes_of before.files name) there.bytes cause.0.bytes there.file cause.0.read in
     absurd (cc (subst (λ l. core_of l ≡ Ok there.core) same there.is, cause.0.bad))
-core_cause name before after refusal.NoFile there still cause = absurd (not_lacking before.files name there.bytes there.file cause.0)
-core_cause name before after refusal.ReadFault there still cause = absurd (still cause)
-core_cause name before after refusal.CommandsFault there still cause = absurd cause
-core_cause name before after refusal.CommandsTooLong there still cause = absurd cause
-core_cause name before after refusal.NoMemory there still cause = refl
+core_cause name before after refusal.NoFile there calm cause = absurd (not_lacking before.files name there.bytes there.file cause.0)
+core_cause name before after refusal.ReadFault there calm cause = absurd (calm cause)
+core_cause name before after refusal.CommandsFault there calm cause = absurd cause
+core_cause name before after refusal.CommandsTooLong there calm cause = absurd cause
+core_cause name before after refusal.NoMemory there calm cause = refl
 
 too_many : (input : Option (List ℕ)) → Exceed input MOST_COMMAND_BYTES → IsStatusOf input Refused
 too_many None long = inr refl
 too_many (Some commands) long = let more : nat_lt MOST_COMMAND_BYTES (length commands) ≡ true = grind (arith, nat_tests, long) in rw more refl
 
 commands_cause : (input input_after : Option (List ℕ)) (before after : ℕ) (why : Refusal) → (Rose before after → ⊥) → IsCommandsCause input input_after before after why → IsStatusOf input (status_of why) ⊎ (status_of why ≡ NoMemory)
-commands_cause input input_after before after (refusal.BadScript line reason) still cause = absurd cause
-commands_cause input input_after before after refusal.NoScript still cause = absurd cause
-commands_cause input input_after before after refusal.CoreTooLong still cause = absurd cause
-commands_cause input input_after before after (refusal.BadCore offset fault) still cause = absurd cause
-commands_cause input input_after before after refusal.NoFile still cause = absurd cause
-commands_cause input input_after before after refusal.ReadFault still cause = absurd cause
-commands_cause input input_after before after refusal.CommandsFault still cause = absurd (still cause.0)
-commands_cause input input_after before after refusal.CommandsTooLong still cause = inl (too_many input cause.0)
-commands_cause input input_after before after refusal.NoMemory still cause = inr refl
+commands_cause input input_after before after (refusal.BadScript line reason) calm cause = absurd cause
+commands_cause input input_after before after refusal.CoreTooLong calm cause = absurd cause
+commands_cause input input_after before after (refusal.BadCore offset fault) calm cause = absurd cause
+commands_cause input input_after before after refusal.NoFile calm cause = absurd cause
+commands_cause input input_after before after refusal.ReadFault calm cause = absurd cause
+commands_cause input input_after before after refusal.CommandsFault calm cause = absurd (calm cause.0)
+commands_cause input input_after before after refusal.CommandsTooLong calm cause = inl (too_many input cause.0)
+commands_cause input input_after before after refusal.NoMemory calm cause = inr refl
 
 done_or_refused : (refuses : Bool) → (answered refuses ≡ Done) ⊎ (answered refuses ≡ Refused)
 done_or_refused true = inr refl
@@ -130,11 +130,11 @@ all_answered (Some known) commands are short =
     subst (λ (l : List ℕ). answered (list_any is_refused (lines_of commands)) ≡ commands_status l) (sym are) (rw few refl)
 
 mdb_status : (name : List ℕ) (before after : World) (wanted : Wanted) → IsCoreThere name before → HasNoFault before after → WantsMdb name before after wanted → IsStatusOf before.input wanted.status ⊎ (wanted.status ≡ NoMemory)
-mdb_status name before after wanted there still (inl core) =
-    inr (ap (λ w. w.status) core.wants ∙ core_cause name before after.read_faults core.why there still.reads core.cause)
-mdb_status name before after wanted there still (inr (inl commands)) =
-    subst (λ (s : Status). IsStatusOf before.input s ⊎ (s ≡ NoMemory)) (sym (ap (λ w. w.status) commands.wants)) (commands_cause before.input after.input before.input_faults after.input_faults commands.why still.input commands.cause)
-mdb_status name before after wanted there still (inr (inr session)) =
+mdb_status name before after wanted there calm (inl core) =
+    inr (ap (λ w. w.status) core.wants ∙ core_cause name before after.read_faults core.why there calm.reads core.cause)
+mdb_status name before after wanted there calm (inr (inl commands)) =
+    subst (λ (s : Status). IsStatusOf before.input s ⊎ (s ≡ NoMemory)) (sym (ap (λ w. w.status) commands.wants)) (commands_cause before.input after.input before.input_faults after.input_faults commands.why calm.input commands.cause)
+mdb_status name before after wanted there calm (inr (inr session)) =
     elim session.wants [
       | inl all ↦ inl (subst (IsStatusOf before.input) (sym all.status) (all_answered before.input session.commands session.read session.short))
       | inr first ↦ inr first.status
@@ -142,56 +142,88 @@ mdb_status name before after wanted there still (inr (inr session)) =
 
 -- ---- what is asked
 
-pub whole_given : (task : Task) (before after : World) (status : Status) → Gives (IsWanted task before after) before.streams after.streams status → IsWholeOf task before after status
-whole_given (run name) before after status given = λ there still.
-    subst (λ (s : Status). (s ≡ Done) ⊎ (s ≡ NoMemory)) (sym (ended_so before after given.0 status still given.2)) (run_status name before after given.0 there still given.1.1)
-whole_given (mdb name) before after status given = λ there still.
-    subst (λ (s : Status). IsStatusOf before.input s ⊎ (s ≡ NoMemory)) (sym (ended_so before after given.0 status still given.2)) (mdb_status name before after given.0 there still given.1)
-whole_given none before after status given = λ still. ended_so before after given.0 status still given.2 ∙ ap (λ w. w.status) given.1.1.1
-
--- ---- what the words ask for
-
--- memory was short before anything was done
-pub no_memory_for_run : (name : List ℕ) (both : World) → GivenByRun name both both NoMemory
-no_memory_for_run name both = (
-  refused name refusal.NoMemory,
-  inr (record { why = refusal.NoMemory; cause = refl; wants = refl }),
-  says_err both.streams both.streams [] NoMemory NoMemory (inl (refl, takes_nothing both.streams.err)) refl,
-)
-
-pub no_memory_for_mdb : (name : List ℕ) (both : World) → GivenByMdb name both both NoMemory
-no_memory_for_mdb name both = (
-  refused name refusal.NoMemory,
-  inl (record { why = refusal.NoMemory; cause = refl; input = (refl, refl); wants = refl }),
-  says_err both.streams both.streams [] NoMemory NoMemory (inl (refl, takes_nothing both.streams.err)) refl,
-)
-
--- a run gives out what may be wanted for it, and reads nothing of the input
-pub run_given : (task : Task) (name : List ℕ) (files files_after : Files) (reads reads_after w w_after : ℕ) (input : Option (List ℕ)) (faults : ℕ) (before after : Streams) (status : Status) → run name ≡ task
-    → GivenByRun name (without_input files reads w before) (without_input files_after reads_after w_after after) status
-    → Gives (IsWanted task (world files reads w input faults before) (world files_after reads_after w_after input faults after)) before after status
-run_given task name files files_after reads reads_after w w_after input faults before after status is given =
-    subst (λ (t : Task). Gives (IsWanted t (world files reads w input faults before) (world files_after reads_after w_after input faults after)) before after status) is (
-      given.0,
-      ((refl, refl), wants_over_files given.0 given.1),
-      given.2,
-    )
+pub whole_given : (task : Task) (before after : World) (status : Status) → GivesOut (IsWanted task before after) before.streams after.streams status → IsWholeOf task before after status
+whole_given (run name options) before after status given = λ there calm.
+    subst (λ (s : Status). (s ≡ Done) ⊎ (s ≡ NoMemory)) (sym (ended_so before after given.0 status calm given.2)) (run_status (has_guards options) name before after given.0 there calm given.1.1)
+whole_given (mdb name) before after status given = λ there calm.
+    subst (λ (s : Status). IsStatusOf before.input s ⊎ (s ≡ NoMemory)) (sym (ended_so before after given.0 status calm given.2)) (mdb_status name before after given.0 there calm given.1)
+whole_given none before after status given = λ calm.
+    subst (λ (s : Status). (s ≡ Usage) ⊎ (s ≡ NoMemory)) (sym (ended_so before after given.0 status calm given.2)) (usage_status given.0 given.1.1.1)
   where
-    wants_over_files : (wanted : Wanted) → WantsRun name (without_input files reads w before) (without_input files_after reads_after w_after after) wanted
-        → WantsRun name (world files reads w input faults before) (world files_after reads_after w_after input faults after) wanted
-    wants_over_files wanted (inl text) = inl (record { text = text.text; is = text.is; reads = text.reads; wants = text.wants })
-    wants_over_files wanted (inr refusal) = inr (record { why = refusal.why; cause = refusal.cause; wants = refusal.wants })
+    usage_status : (wanted : Wanted) → (wanted ≡ usage) ⊎ (wanted ≡ nothing) → (wanted.status ≡ Usage) ⊎ (wanted.status ≡ NoMemory)
+    usage_status wanted (inl is) = inl (ap (λ w. w.status) is)
+    usage_status wanted (inr is) = inr (ap (λ w. w.status) is)
 
--- commands over a core give out what may be wanted for them
-pub mdb_given : (task : Task) (name : List ℕ) (before after : World) (status : Status) → mdb name ≡ task → GivenByMdb name before after status → Gives (IsWanted task before after) before.streams after.streams status
-mdb_given task name before after status is given = subst (λ (t : Task). Gives (IsWanted t before after) before.streams after.streams status) is given
+-- ---- what is given where nothing is done
 
--- words that are no command get the usage lines
-pub usage_given : (task : Task) (before after : World) (status : Status) → none ≡ task → after.read_faults ≡ before.read_faults → after.input ≡ before.input → after.input_faults ≡ before.input_faults
-    → after.streams.out ≡ before.streams.out → SaysUsage before.streams.err after.streams.err status → Gives (IsWanted task before after) before.streams after.streams status
-usage_given task before after status is reads input faults out says =
-    subst (λ (t : Task). Gives (IsWanted t before after) before.streams after.streams status) is (
-      record { pieces = for_err usage_text ∷ []; status = Usage },
-      ((input, faults), (reads, refl)),
-      says_err before.streams after.streams usage_text Usage status says out,
-    )
+-- where memory is short for the words, nothing is written and nothing read
+pub short_given : (task : Task) (before : World) → GivesOut (IsWanted task before before) before.streams before.streams NoMemory
+short_given (run name options) before =
+    (refused name refusal.NoMemory, ((refl, refl), inr (record { why = refusal.NoMemory; cause = refl; wants = refl })), no_line before.streams name)
+short_given (mdb name) before =
+    (refused name refusal.NoMemory, inl (record { why = refusal.NoMemory; cause = refl; input = (refl, refl); wants = refl }), no_line before.streams name)
+short_given none before = (nothing, ((refl, refl), (refl, inr refl)), inl (refl, refl))
+
+-- words that ask for nothing that there is get the usage lines
+pub usage_given : (before after : World) (status : Status) → KeepsInput before after → after.read_faults ≡ before.read_faults → after.streams.out ≡ before.streams.out
+    → SaysUsage before.streams.err after.streams.err status → GivesOut (IsWanted none before after) before.streams after.streams status
+usage_given before after status input reads out says =
+    (usage, (input, (reads, inl refl)), says_err before.streams after.streams usage_text Usage status says out)
+
+-- ---- by the job that was read
+
+module _ (words : List (List ℕ)) (asked : Option Job) (told : asked ≡ job_of words) where
+  -- no job
+  pub none_read : asked ≡ None → task_of words ≡ none
+  none_read is = ap served (sym told ∙ is)
+
+  module _ (job : Job) (is : asked ≡ Some job) where
+    task_read : task_of words ≡ served (Some job)
+    task_read = ap served (sym told ∙ is)
+
+    -- a run that leaves a core
+    pub core_read : (its : RunJob) → job ≡ Run its → is_some its.core ≡ true → task_of words ≡ none
+    core_read its run_is some = task_read ∙ ap (λ (j : Job). served (Some j)) run_is ∙ by_core its.core some
+      where
+        by_core : (core : Option (List ℕ)) → is_some core ≡ true → run_served its core ≡ none
+        by_core None e = absurd (cc e)
+        by_core (Some core) e = refl
+
+    -- a run that leaves none
+    pub run_read : (its : RunJob) → job ≡ Run its → is_some its.core ≡ false → task_of words ≡ run its.script its.options
+    run_read its run_is none_left = task_read ∙ ap (λ (j : Job). served (Some j)) run_is ∙ by_core its.core none_left
+      where
+        by_core : (core : Option (List ℕ)) → is_some core ≡ false → run_served its core ≡ run its.script its.options
+        by_core None e = refl
+        by_core (Some core) e = absurd (cc e)
+
+    pub mdb_read : (its : MdbJob) → job ≡ Mdb its → task_of words ≡ mdb its.core
+    mdb_read its is_mdb = task_read ∙ ap (λ (j : Job). served (Some j)) is_mdb
+
+    pub make_read : (its : MakeJob) → job ≡ Make its → task_of words ≡ none
+    make_read its is_make = task_read ∙ ap (λ (j : Job). served (Some j)) is_make
+
+-- what is given for what the words ask for
+pub given_for : (words : List (List ℕ)) (task : Task) (before after : World) (status : Status) → task_of words ≡ task → GivesOut (IsWanted task before after) before.streams after.streams status → GivenOut words before after status
+given_for words task before after status is given = subst (λ (t : Task). GivesOut (IsWanted t before after) before.streams after.streams status) (sym is) given
+
+-- a run reads nothing of the input
+pub run_given : (name : List ℕ) (options : Options) (before after : World) (b a : World) (status : Status) → b.files ≡ before.files → b.read_faults ≡ before.read_faults → a.read_faults ≡ after.read_faults
+    → b.streams ≡ before.streams → a.streams ≡ after.streams → KeepsInput before after → GivenByRun (has_guards options) name b a status → GivesOut (IsWanted (run name options) before after) before.streams after.streams status
+run_given name options before after b a status files reads reads_after streams streams_after input given =
+    (given.0, (input, moved given.0 given.1), subst (λ (s : Streams). Ends before.streams s given.0 status) streams_after (subst (λ (s : Streams). Ends s a.streams given.0 status) streams given.2))
+  where
+    moved : (wanted : Wanted) → WantsRun (has_guards options) name b a wanted → WantsRun (has_guards options) name before after wanted
+    moved wanted (inl made) = inl (record {
+      text = made.text;
+      is = subst (λ (f : Files). IsTranscript (has_guards options) f name made.text) files made.is;
+      reads = sym reads_after ∙ made.reads ∙ reads;
+      wants = made.wants;
+    })
+    moved wanted (inr refusal) = inr (record {
+      why = refusal.why;
+      cause =
+          subst (λ (n : ℕ). IsRunCause before.files name before.read_faults n refusal.why) reads_after
+          (subst (λ (n : ℕ). IsRunCause before.files name n a.read_faults refusal.why) reads (subst (λ (f : Files). IsRunCause f name b.read_faults a.read_faults refusal.why) files refusal.cause));
+      wants = refusal.wants;
+    })

@@ -9,7 +9,7 @@ use Rattle.core_format.specs.declared.whole.Core.{Core}
 use Rattle.umem_cli.specs.declared.status.Status.{Status}
 use Rattle.umem_cli.specs.declared.status.Status.TheVariants.{NoMemory}
 use Rattle.umem_cli.specs.Outcomes.{EndsLine}
-use Rattle.umem_cli.specs.Pieces.{Delivers, Gives, Piece}
+use Rattle.umem_cli.specs.Pieces.{Delivers, GivesOut, Piece}
 use Rattle.umem_cli.specs.Sessions.{AnswersLine, AnswersLines, IsAnswered, answered, is_refused}
 use Rattle.umem_cli.specs.Streams.{Streams}
 use Rattle.umem_cli.proofs.EndsLemmas.{delivers_more, fails_behind}
@@ -74,7 +74,7 @@ or_else false refuses is = refl
 
 -- all lines were answered
 pub all_so_far : (core : Core) (commands rest : List ℕ) (number : ℕ) (refused : Bool) (before now : Streams) (status : Status) → length rest ≡ 0 → status ≡ answered refused
-    → SoFar core commands rest number refused before now → Gives (IsAnswered core (lines_of commands)) before now status
+    → SoFar core commands rest number refused before now → GivesOut (IsAnswered core (lines_of commands)) before now status
 all_so_far core commands (byte ∷ rest) number refused before now status ended is so = absurd (omega (arith, ended))
 all_so_far core commands [] number refused before now status ended is so =
     let all : lines_of commands ≡ so.front = so.split ∙ append-nil so.front in (
@@ -89,7 +89,7 @@ all_so_far core commands [] number refused before now status ended is so =
 -- a line was not answered whole
 pub stopped_so_far : (core : Core) (commands rest line behind : List ℕ) (number : ℕ) (refused : Bool) (before between after : Streams) (end : Status)
     → SoFar core commands rest number refused before between → lines_of rest ≡ line ∷ lines_of behind → EndsLine core (number + 1) line between after (Err end)
-    → Gives (IsAnswered core (lines_of commands)) before after end
+    → GivesOut (IsAnswered core (lines_of commands)) before after end
 stopped_so_far core commands rest line behind number refused before between after end so split (inl short) = (
   record { pieces = so.pieces; status = NoMemory },
   inr (record { first = so.front; more = lines_of rest; whole = so.split; pieces = so.answers; status = refl }),

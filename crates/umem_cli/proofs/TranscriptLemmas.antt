@@ -1,5 +1,5 @@
 -- What a file that was not read means for a run, and what was read of it.
-use Rattle.std.proofs.Common.{◌≡◌, inl, inr, ℕ, zero, suc, ◌+◌, ◌<◌, true, List, [], ◌∷◌, length, Option, Some, None, refl, sym, subst, arith, ap, nat_lt}
+use Rattle.std.proofs.Common.{◌≡◌, ℕ, zero, suc, ◌+◌, ◌<◌, Bool, true, List, [], ◌∷◌, length, Option, Some, None, refl, sym, subst, arith, ap, nat_lt}
 use Rattle.std.specs.Prelude.{Result, Ok, Err, IsErrAnd}
 use Rattle.std.proofs.lemmas.Bool.Decides.{nat_tests}
 use Rattle.umem_base.specs.Folder.{Files, bytes_of, MayHave}
@@ -37,17 +37,15 @@ not_read_cause files name before after read.ReadFault reads counts = counts
 not_read_cause files name before after read.TooLong reads counts = (too_long files name (bytes_of files name) refl reads.0 reads.1, counts)
 not_read_cause files name before after read.NoMemory reads counts = counts
 
-pub not_read : (files : Files) (name : List ℕ) (before after : ℕ) (fault : ReadFile) (result : Result (List ℕ) Refusal)
-    → ReadsFile files name MOST_BYTES (Err fault) → CountsReadFault {T = Unit {0}} before after (Err fault) → IsErrAnd result (λ r. r ≡ refusal_of_read fault) → MakesTranscript files name before after result
-not_read files name before after fault (Ok text) reads counts is = absurd is
-not_read files name before after fault (Err why) reads counts is = subst (λ (r : Refusal). IsRunCause files name before after r) (sym is) (not_read_cause files name before after fault reads counts)
+pub not_read : (guards : Bool) (files : Files) (name : List ℕ) (before after : ℕ) (fault : ReadFile) (result : Result (List ℕ) Refusal)
+    → ReadsFile files name MOST_BYTES (Err fault) → CountsReadFault {T = Unit {0}} before after (Err fault) → IsErrAnd result (λ r. r ≡ refusal_of_read fault) → MakesTranscript guards files name before after result
+not_read guards files name before after fault (Ok text) reads counts is = absurd is
+not_read guards files name before after fault (Err why) reads counts is = subst (λ (r : Refusal). IsRunCause files name before after r) (sym is) (not_read_cause files name before after fault reads counts)
 
 -- what became of a script that was read
-pub script_read : (files : Files) (name bytes : List ℕ) (plan : Plan) (before after : ℕ) (result : Result (List ℕ) Refusal)
-    → MayHave files name → Are (bytes_of files name) bytes → script_of bytes ≡ Ok plan → after ≡ before → MakesText plan result → MakesTranscript files name before after result
-script_read files name bytes plan before after (Ok text) has are spelled same made =
+pub script_read : (guards : Bool) (files : Files) (name bytes : List ℕ) (plan : Plan) (before after : ℕ) (result : Result (List ℕ) Refusal)
+    → MayHave files name → Are (bytes_of files name) bytes → script_of bytes ≡ Ok plan → after ≡ before → MakesText guards plan result → MakesTranscript guards files name before after result
+script_read guards files name bytes plan before after (Ok text) has are spelled same made =
     (record { file = has; bytes = bytes; read = are; plan = plan; spelled = spelled; history = made.0; is = made.1; printed = made.2 }, same)
-script_read files name bytes plan before after (Err why) has are spelled same (inl other) =
-    subst (λ (r : Refusal). IsRunCause files name before after r) (sym other.0) (record { file = has; bytes = bytes; read = are; plan = plan; spelled = spelled; other = other.1 }, same)
-script_read files name bytes plan before after (Err why) has are spelled same (inr short) =
+script_read guards files name bytes plan before after (Err why) has are spelled same short =
     subst (λ (r : Refusal). IsRunCause files name before after r) (sym short) same

@@ -1,29 +1,29 @@
--- What words ask for.
-use Rattle.std.specs.Prelude.{ℕ, if◌then◌else◌, List, [], ◌∷◌, codes}
-use Rattle.std.specs.Str.{bytes_eq}
-use Rattle.umem_cli.specs.declared.asked.Asked.{Asked as AskedHere}
-use Rattle.umem_cli.specs.declared.asked.Asked.TheVariants as asked
+-- What words ask for, and what of it is served.
+use Rattle.std.specs.Prelude.{ℕ, List, Option, None, Some}
+use Rattle.umem_options.specs.declared.options.Options.{Options}
+use Rattle.umem_words.specs.declared.job.Job.{Job}
+use Rattle.umem_words.specs.declared.job.Job.TheVariants.{Make, Mdb, Run}
+use Rattle.umem_words.specs.declared.run_job.RunJob.{RunJob}
+use Rattle.umem_words.specs.Jobs.{job_of}
 
--- to run the script in a file, to answer commands over the core in a file, or nothing that there is
+-- to run the script in a file with options, to answer commands over the core in a file, or nothing that there is
 pub data Task : Type 0 where
-  run : (name : List ℕ) → Task
+  run : (name : List ℕ) (options : Options) → Task
   mdb : (name : List ℕ) → Task
   none : Task
 
--- what a mode asks for, with the name of a file
-abbrev pub mode_of : List ℕ → List ℕ → Task
-mode_of mode name =
-    if bytes_eq mode (codes "run") then run name else (if bytes_eq mode (codes "mdb") then mdb name else none)
+-- a run is served that leaves no core: cores are not written yet
+abbrev pub run_served : RunJob → Option (List ℕ) → Task
+run_served job None = run job.script job.options
+run_served job (Some core) = none
+
+-- what is served of a job: scripts are not made yet
+abbrev pub served : Option Job → Task
+served None = none
+served (Some (Run job)) = run_served job job.core
+served (Some (Mdb job)) = mdb job.core
+served (Some (Make job)) = none
 
 -- what the words ask for
-abbrev pub job_of : List (List ℕ) → Task
-job_of [] = none
-job_of (mode ∷ []) = none
-job_of (mode ∷ name ∷ []) = mode_of mode name
-job_of (mode ∷ name ∷ more ∷ words) = none
-
--- the same of words that were read
-abbrev pub job_read : AskedHere → Task
-job_read (asked.Run name) = run name.now
-job_read (asked.Mdb name) = mdb name.now
-job_read asked.Nothing = none
+abbrev pub task_of : List (List ℕ) → Task
+task_of words = served (job_of words)

@@ -1,6 +1,3 @@
-pub mod Tables
-pub mod Run
-pub mod Runnable
 pub mod Status
 pub mod Refusal
 pub mod Messages

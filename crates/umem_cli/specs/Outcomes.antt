@@ -21,10 +21,10 @@ use Rattle.umem_cli.specs.Words.{AreText}
 
 -- ---- a run
 
--- the transcript of the script in the file was made, or was not for a cause
-abbrev pub MakesTranscript : Files → List ℕ → ℕ → ℕ → Result (List ℕ) Refusal → Type 0
-MakesTranscript files name before after (Ok text) = IsTranscript files name text × (after ≡ before)
-MakesTranscript files name before after (Err why) = IsRunCause files name before after why
+-- the transcript of the script in the file, with guards or without, was made, or was not for a cause
+abbrev pub MakesTranscript : Bool → Files → List ℕ → ℕ → ℕ → Result (List ℕ) Refusal → Type 0
+MakesTranscript guards files name before after (Ok text) = IsTranscript guards files name text × (after ≡ before)
+MakesTranscript guards files name before after (Err why) = IsRunCause files name before after why
 
 -- ---- commands over a core
 
@@ -40,15 +40,15 @@ ReadsCommands input input_after before after (Ok commands) =
 ReadsCommands input input_after before after (Err why) = IsCommandsCause input input_after before after why
 
 -- an answer to the command went so to the output
-abbrev pub Answers : Core → Dcmd → (List ℕ → Type 0) → Type 0
-Answers core dcmd Goes = (text : List ℕ) × IsAnswer core dcmd text × Goes text
+abbrev pub TellsAnswerSo : Core → Dcmd → (List ℕ → Type 0) → Type 0
+TellsAnswerSo core dcmd Goes = (text : List ℕ) × IsAnswer core dcmd text × Goes text
 
 -- the answer to the command was written, or was not for want of memory, or the output failed
 abbrev pub EndsAnswer : Core → Dcmd → Stream → Stream → Result (Unit {0}) Status → Type 0
-EndsAnswer core dcmd before after (Ok done) = Answers core dcmd (Takes before after)
+EndsAnswer core dcmd before after (Ok done) = TellsAnswerSo core dcmd (Takes before after)
 EndsAnswer core dcmd before after (Err end) =
     ((end ≡ status.NoMemory) × (after ≡ before))
-    ⊎ ((end ≡ status.WriteFault) × Answers core dcmd (TakesFront before after))
+    ⊎ ((end ≡ status.WriteFault) × TellsAnswerSo core dcmd (TakesFront before after))
 
 -- what is wanted for the line went so to the streams
 abbrev pub AnswersSo : Core → ℕ → List ℕ → (Piece → Type 0) → Type 0

@@ -51,5 +51,5 @@ Ends before after wanted status =
     ⊎ ((status ≡ WriteFault) × FailsAt before after wanted.pieces)
 
 -- something was given out that may be wanted
-abbrev pub Gives : (Wanted → Type 0) → Streams → Streams → Status → Type 0
-Gives IsWanted before after status = (wanted : Wanted) × IsWanted wanted × Ends before after wanted status
+abbrev pub GivesOut : (Wanted → Type 0) → Streams → Streams → Status → Type 0
+GivesOut IsWanted before after status = (wanted : Wanted) × IsWanted wanted × Ends before after wanted status

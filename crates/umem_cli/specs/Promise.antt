@@ -5,44 +5,52 @@ use Rattle.umem_base.specs.Folder.{bytes_of}
 use Rattle.umem_base.specs.Lines.{lines_of}
 use Rattle.core_format.specs.declared.whole.Core.{Core}
 use Rattle.core_format.specs.Cores.{core_of}
+use Rattle.umem_options.specs.Flags.{has_guards}
 use Rattle.script.specs.Grammar.{script_of}
 use Rattle.script.specs.Plan.{Plan}
 use Rattle.umem_cli.specs.declared.limits.TheConstants.{MOST_COMMAND_BYTES, MOST_CORE_BYTES}
 use Rattle.umem_cli.specs.declared.status.Status.{Status}
 use Rattle.umem_cli.specs.declared.status.Status.TheVariants.{Done, NoMemory, Refused, Usage}
-use Rattle.umem_cli.specs.Asked.{Task, job_of, mdb, none, run}
-use Rattle.umem_cli.specs.Histories.{CanRun}
+use Rattle.umem_cli.specs.Asked.{Task, mdb, none, run, task_of}
 use Rattle.umem_cli.specs.Messages.{usage_text}
-use Rattle.umem_cli.specs.Pieces.{Gives, Wanted, for_err}
+use Rattle.umem_cli.specs.Pieces.{GivesOut, Wanted, for_err}
 use Rattle.umem_cli.specs.Transcripts.{WantsRun}
 use Rattle.umem_cli.specs.Sessions.{WantsMdb, answered, is_refused}
 use Rattle.umem_cli.specs.World.{HasNoFault, KeepsInput, World}
 
--- the usage lines are wanted, and nothing is read
+-- the usage lines
+abbrev pub usage : Wanted
+usage = record { pieces = for_err usage_text ∷ []; status = Usage }
+
+-- nothing, for want of memory
+abbrev pub nothing : Wanted
+nothing = record { pieces = []; status = NoMemory }
+
+-- the usage lines are wanted, or there is no memory for the words, and nothing is read
 abbrev pub WantsUsage : World → World → Wanted → Type 0
 WantsUsage before after wanted =
-    (after.read_faults ≡ before.read_faults) × (wanted ≡ record { pieces = for_err usage_text ∷ []; status = Usage })
+    (after.read_faults ≡ before.read_faults) × ((wanted ≡ usage) ⊎ (wanted ≡ nothing))
 
 -- what may be wanted for what is asked
 abbrev pub IsWanted : Task → World → World → Wanted → Type 0
-IsWanted (run name) before after wanted = KeepsInput before after × WantsRun name before after wanted
+IsWanted (run name options) before after wanted =
+    KeepsInput before after × WantsRun (has_guards options) name before after wanted
 IsWanted (mdb name) before after wanted = WantsMdb name before after wanted
 IsWanted none before after wanted = KeepsInput before after × WantsUsage before after wanted
 
 -- what the program gives out for its words
 abbrev pub GivenOut : List (List ℕ) → World → World → Status → Type 0
 GivenOut words before after status =
-    Gives (IsWanted (job_of words) before after) before.streams after.streams status
+    GivesOut (IsWanted (task_of words) before after) before.streams after.streams status
 
 -- ---- what a call may not leave out
 
--- a script is there that can be run
+-- a script is there
 pub record IsScriptThere (name : List ℕ) (before : World) : Type 0 where
   pub bytes : List ℕ
   pub file : bytes_of before.files name ≡ Some bytes
   pub plan : Plan
   pub spelled : script_of bytes ≡ Ok plan
-  pub runnable : CanRun plan
 
 -- a core is there
 pub record IsCoreThere (name : List ℕ) (before : World) : Type 0 where
@@ -62,14 +70,15 @@ abbrev pub IsStatusOf : Option (List ℕ) → Status → Type 0
 IsStatusOf None status = (status ≡ Done) ⊎ (status ≡ Refused)
 IsStatusOf (Some commands) status = status ≡ commands_status commands
 
--- Where a script or a core is there and no count rose, the call is done, or memory was short.
+-- Where a script or a core is there and no count rose, the call is done, or memory was short. Words that ask for neither
+-- are refused, or memory was short.
 abbrev pub IsWholeOf : Task → World → World → Status → Type 0
-IsWholeOf (run name) before after status =
+IsWholeOf (run name options) before after status =
     IsScriptThere name before → HasNoFault before after → (status ≡ Done) ⊎ (status ≡ NoMemory)
 IsWholeOf (mdb name) before after status =
     IsCoreThere name before → HasNoFault before after → IsStatusOf before.input status ⊎ (status ≡ NoMemory)
-IsWholeOf none before after status = HasNoFault before after → status ≡ Usage
+IsWholeOf none before after status = HasNoFault before after → (status ≡ Usage) ⊎ (status ≡ NoMemory)
 
 -- the same for words
 abbrev pub IsWhole : List (List ℕ) → World → World → Status → Type 0
-IsWhole words before after status = IsWholeOf (job_of words) before after status
+IsWhole words before after status = IsWholeOf (task_of words) before after status

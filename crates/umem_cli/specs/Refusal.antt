@@ -9,7 +9,7 @@ use Rattle.script.specs.declared.fault.ScriptFault.TheVariants as script
 use Rattle.core_format.specs.declared.core_fault.CoreFault.{CoreFault}
 use Rattle.core_format.specs.declared.core_fault.CoreFault.TheVariants as core
 use Rattle.umem_cli.specs.declared.refusal.Refusal.{Refusal}
-use Rattle.umem_cli.specs.declared.refusal.Refusal.TheVariants.{BadCore, BadScript, CommandsFault, CommandsTooLong, CoreTooLong, NoFile, NoMemory, NoScript, ReadFault}
+use Rattle.umem_cli.specs.declared.refusal.Refusal.TheVariants.{BadCore, BadScript, CommandsFault, CommandsTooLong, CoreTooLong, NoFile, NoMemory, ReadFault}
 use Rattle.umem_cli.specs.declared.status.Status.{Status}
 use Rattle.umem_cli.specs.declared.status.Status.TheVariants as status
 
@@ -46,7 +46,6 @@ refusal_of_commands all.NoMemory = NoMemory
 -- the status of a refusal whose line was written
 abbrev pub status_of : Refusal → Status
 status_of (BadScript line reason) = status.BadScript
-status_of NoScript = status.BadScript
 status_of CoreTooLong = status.BadCore
 status_of (BadCore offset fault) = status.BadCore
 status_of NoFile = status.NoFile

@@ -20,7 +20,7 @@ use Rattle.umem_cli.specs.declared.refusal.Refusal.TheVariants as refusal
 use Rattle.umem_cli.specs.declared.status.Status.{Status}
 use Rattle.umem_cli.specs.declared.status.Status.TheVariants.{Done, NoMemory, Refused}
 use Rattle.umem_cli.specs.Messages.{line_message}
-use Rattle.umem_cli.specs.Pieces.{Gives, Piece, Wanted, for_err, for_out, refused}
+use Rattle.umem_cli.specs.Pieces.{GivesOut, Piece, Wanted, for_err, for_out, refused}
 use Rattle.umem_cli.specs.World.{KeepsInput, World}
 
 -- ---- the core
@@ -44,7 +44,6 @@ pub record IsBadCoreIn (files : Files) (name : List ℕ) (offset : ℕ) (fault :
 -- why there is no core, with the count of read faults before and after
 abbrev pub IsCoreCause : Files → List ℕ → ℕ → ℕ → Refusal → Type 0
 IsCoreCause files name before after (refusal.BadScript line reason) = ⊥
-IsCoreCause files name before after refusal.NoScript = ⊥
 IsCoreCause files name before after refusal.CoreTooLong =
     MayHave files name × Exceed (bytes_of files name) MOST_CORE_BYTES × (after ≡ before)
 IsCoreCause files name before after (refusal.BadCore offset fault) =
@@ -60,7 +59,6 @@ IsCoreCause files name before after refusal.NoMemory = after ≡ before
 -- why there are no commands, with what is left of the input, and its count of faults, before and after
 abbrev pub IsCommandsCause : Option (List ℕ) → Option (List ℕ) → ℕ → ℕ → Refusal → Type 0
 IsCommandsCause input input_after before after (refusal.BadScript line reason) = ⊥
-IsCommandsCause input input_after before after refusal.NoScript = ⊥
 IsCommandsCause input input_after before after refusal.CoreTooLong = ⊥
 IsCommandsCause input input_after before after (refusal.BadCore offset fault) = ⊥
 IsCommandsCause input input_after before after refusal.NoFile = ⊥
@@ -163,4 +161,4 @@ WantsMdb name before after wanted =
 
 -- what commands over the core in the file of that name give out
 abbrev pub GivenByMdb : List ℕ → World → World → Status → Type 0
-GivenByMdb name before after status = Gives (WantsMdb name before after) before.streams after.streams status
+GivenByMdb name before after status = GivesOut (WantsMdb name before after) before.streams after.streams status

@@ -2,7 +2,6 @@
 #![tactic(auto)]
 
 mod arguments;
-mod asked;
 mod given;
 mod job;
 mod limits;
@@ -10,13 +9,10 @@ mod mem_words;
 mod message;
 mod refusal;
 mod report;
-mod run;
-mod runnable;
 mod script_run;
 mod session;
 mod status;
 mod system_words;
-mod tables;
 mod top;
 mod words;
 

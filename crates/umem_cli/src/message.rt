@@ -1,7 +1,7 @@
 ghost use Rattle.std.specs.Prelude.{◌≡◌, ◌++◌};
 ghost use Rattle.umem_base.specs.Faults.{Counts};
 ghost use Rattle.umem_base.specs.Transfer.{WritesWhole};
-ghost use Rattle.umem_cli.specs.Messages.{about, line_message, message_text, numbered, usage_text};
+ghost use Rattle.umem_cli.specs.Messages.{about, line_message, message_text, numbered_line, usage_text};
 
 use crate::refusal::Refusal;
 use dcmd::DcmdFault;
@@ -47,7 +47,6 @@ pub(crate) fn write_message<E: Sink>(
         Refusal::BadScript { line, reason } => {
             write_numbered(err, name, b": line ", u64::from(line), reason.word())
         }
-        Refusal::NoScript => write_about(err, name, b": no script\n"),
         Refusal::CoreTooLong => write_about(err, name, b": too long\n"),
         Refusal::BadCore { offset, fault } => {
             write_numbered(err, name, b": offset ", offset, fault.word())
@@ -89,7 +88,7 @@ fn write_numbered<E: Sink>(
     word: &[u8],
 ) -> Result<(), WriteFault>
     ensures taken { WritesWhole (E.taken err.old) (E.taken err.new)
-        (about name.now (numbered label.now number word.now)) result }
+        (about name.now (numbered_line label.now number word.now)) result }
     ensures cause { Counts (E.faults err.old) (E.faults err.new) result }
 {
     write_whole(err, b"umem: ")?;
@@ -104,7 +103,7 @@ fn write_number<E: Sink>(
     number: u64,
     word: &[u8],
 ) -> Result<(), WriteFault>
-    ensures taken { WritesWhole (E.taken err.old) (E.taken err.new) (numbered label.now number word.now) result }
+    ensures taken { WritesWhole (E.taken err.old) (E.taken err.new) (numbered_line label.now number word.now) result }
     ensures cause { Counts (E.faults err.old) (E.faults err.new) result }
 {
     let mut buffer = Buffer::new();

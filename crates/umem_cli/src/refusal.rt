@@ -11,8 +11,6 @@ use umem_base::{NoMemory, ReadAll, ReadFile};
 pub enum Refusal {
     /// The file of a script has a bad line.
     BadScript { line: u32, reason: Reason },
-    /// The script in the file can't be run.
-    NoScript,
     /// The file of a core has too many bytes.
     CoreTooLong,
     /// The file of a core breaks a rule of the format.

@@ -47,7 +47,7 @@ fn status_of(why: Refusal) -> Status
     ensures { result ≡ status_of why }
 {
     match why {
-        Refusal::BadScript { .. } | Refusal::NoScript => Status::BadScript,
+        Refusal::BadScript { .. } => Status::BadScript,
         Refusal::CoreTooLong | Refusal::BadCore { .. } => Status::BadCore,
         Refusal::NoFile => Status::NoFile,
         Refusal::ReadFault | Refusal::CommandsFault => Status::ReadFault,

@@ -1,7 +1,7 @@
 ghost use Rattle.std.specs.Prelude.{◌≡◌};
 ghost use Rattle.umem_base.specs.Lines.{lines_of};
 ghost use Rattle.umem_cli.specs.Outcomes.{EndsAnswer, EndsLine, ReadsCommands, ReadsCore};
-ghost use Rattle.umem_cli.specs.Pieces.{Gives};
+ghost use Rattle.umem_cli.specs.Pieces.{GivesOut};
 ghost use Rattle.umem_cli.specs.Refusal.{refusal_of_file};
 ghost use Rattle.umem_cli.specs.Sessions.{GivenByMdb, IsAnswered};
 ghost use Rattle.umem_cli.specs.Streams.{stream, streams};
@@ -98,7 +98,7 @@ fn answer_commands<O: Sink, E: Sink>(
     out: &mut O,
     err: &mut E,
 ) -> Status
-    ensures { Gives (IsAnswered view.now (lines_of commands.now))
+    ensures { GivesOut (IsAnswered view.now (lines_of commands.now))
         (streams (O.taken out.old) (O.faults out.old) (E.taken err.old) (E.faults err.old))
         (streams (O.taken out.new) (O.faults out.new) (E.taken err.new) (E.faults err.new)) result }
 {

@@ -9,7 +9,7 @@ pub enum Status {
     Refused,
     /// The words are no command.
     Usage,
-    /// The file is no script, or one that can't be run.
+    /// The file is no script.
     BadScript,
     /// The file is no core.
     BadCore,

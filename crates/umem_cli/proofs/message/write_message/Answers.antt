@@ -1,10 +1,7 @@
 use Rattle.umem_cli.proofs.message.write_message.Goals as goal
 
-pub returns-in-NoScript-clause-taken : goal.returns-in-NoScript-clause-taken
-returns-in-NoScript-clause-taken g c = rw (c.in-NoScript.is, ← c.as_slice-name.ensures) c.write_about.ensures.taken
-
 pub returns-in-CoreTooLong-clause-taken : goal.returns-in-CoreTooLong-clause-taken
-returns-in-CoreTooLong-clause-taken g c = rw (c.in-CoreTooLong.is, ← c.as_slice-name.ensures) c.write_about-in-CoreTooLong.ensures.taken
+returns-in-CoreTooLong-clause-taken g c = rw (c.in-CoreTooLong.is, ← c.as_slice-name.ensures) c.write_about.ensures.taken
 
 pub returns-in-NoFile-clause-taken : goal.returns-in-NoFile-clause-taken
 returns-in-NoFile-clause-taken g c = rw (c.in-NoFile.is, ← c.as_slice-name.ensures) c.write_about-in-NoFile.ensures.taken

@@ -1,21 +1,21 @@
-use Rattle.std.proofs.Common.{refl, ◌∙◌, inl}
-use Rattle.umem_cli.proofs.RunLemmas.{legal_caches, ops_of_phases}
+use Rattle.std.proofs.Common.{refl, ap, ◌∙◌}
+use Rattle.umem_options.specs.Flags.{has_guards}
+use Rattle.script.specs.Plan.{plan_of}
+use Rattle.plain_heap.specs.Answers.{setting_for}
+use Rattle.umem_cli.specs.Histories.{run_text}
+use Rattle.umem_cli.proofs.CachesLemmas.{history_caches}
 use Rattle.umem_cli.proofs.script_run.transcript_of.Goals as goal
-
-pub returns-then-not-is_runnable : goal.returns-then-not-is_runnable
-returns-then-not-is_runnable c = inl (refl, λ run. absurd (cc (c.if-not-is_runnable.ensures.1 run)))
-
-pub history_of-requires-clause-ops : goal.history_of-requires-clause-ops
-history_of-requires-clause-ops c =
-    let script = c.args.script in
-    let run = c.if-not-is_runnable.ensures.0 refl in
-    ops_of_phases script.header run.version script.phases c.requires.turns run.calls
 
 pub transcript-requires : goal.transcript-requires
 transcript-requires c =
-    let header = c.args.script.header in
-    legal_caches header c.in_ok-history.history.items (c.in_ok-history.ensures header).legal
+    let plan = plan_of c.args.script.now in
+    let made = c.in_ok-history.ensures.answers in
+    history_caches (setting_for (has_guards c.args.job.now.options) plan) plan c.in_ok-history.history.items refl c.requires made.legal made.follows
 
 pub returns : goal.returns
 returns c =
-    (c.in_ok-history.history.items, (c.if-not-is_runnable.ensures.0 refl, c.in_ok-history.ensures c.args.script.header), c.in_ok-text.ensures)
+    let history = c.in_ok-history.history.items in (
+      history,
+      record { answers = c.in_ok-history.ensures.answers; placed = λ one. c.in_ok-history.ensures.placed },
+      c.in_ok-text.ensures ∙ ap (λ guards. run_text guards (plan_of c.args.script.now) history) c.has_guards.ensures,
+    )

@@ -1,91 +1,103 @@
-use Rattle.std.proofs.Common.{refl, sym, ap, ◌∙◌, map}
+use Rattle.std.proofs.Common.{map, refl, rules}
+use Rattle.std.specs.Global.{Global}
 use Rattle.std.specs.String.{string_bytes}
-use Rattle.umem_cli.specs.Asked.{job_of, job_read}
+use Rattle.umem_cli.specs.declared.status.Status.TheVariants.{NoMemory}
+use Rattle.umem_cli.specs.Asked.{mdb, none, run, task_of}
 use Rattle.umem_cli.specs.Streams.{streams}
-use Rattle.umem_cli.specs.World.{world}
-use Rattle.umem_cli.proofs.PromiseLemmas.{mdb_given, run_given, usage_given, whole_given}
+use Rattle.umem_cli.specs.World.{without_input, world}
+use Rattle.umem_cli.proofs.PromiseLemmas.{core_read, given_for, make_read, mdb_read, none_read, run_given, run_read, short_given, usage_given, whole_given}
 use Rattle.umem_cli.proofs.top.umem.Goals as goal
 
-pub returns-in-Run-clause-given : goal.returns-in-Run-clause-given
-returns-in-Run-clause-given g c =
-    let files = c.args.files.now in
-    let input = c.args.input.now in
-    let out = c.args.out.now in
-    let err = c.args.err.now in
-    let task = job_of (map string_bytes c.args.words.now) in
-    let before = streams (g.O.Sink.taken out) (g.O.Sink.faults out) (g.E.Sink.taken err) (g.E.Sink.faults err) in
-    let after = streams (g.O.Sink.taken c.run_named.new.out) (g.O.Sink.faults c.run_named.new.out) (g.E.Sink.taken c.run_named.new.err) (g.E.Sink.faults c.run_named.new.err) in
-    run_given task c.in-Run.name.now (g.F.Folder.files files) (g.F.Folder.files c.run_named.new.files) (g.F.Folder.read_faults files) (g.F.Folder.read_faults c.run_named.new.files) (g.F.Folder.write_faults files) (g.F.Folder.write_faults c.run_named.new.files)
-    (g.S.Source.left input) (g.S.Source.faults input) before after c.run_named.result (ap job_read (sym c.in-Run.is) ∙ c.job_of.ensures) c.run_named.ensures.given
+pub returns-in-Err-clause-given : goal.returns-in-Err-clause-given
+returns-in-Err-clause-given g c =
+    let words = map (string_bytes {Z = Global}) c.args.words.now in
+    let before = world (g.F.Folder.files c.args.files.now) (g.F.Folder.read_faults c.args.files.now) (g.F.Folder.write_faults c.args.files.now) (g.S.Source.left c.args.input.now) (g.S.Source.faults c.args.input.now)
+    (streams (g.O.Sink.taken c.args.out.now) (g.O.Sink.faults c.args.out.now) (g.E.Sink.taken c.args.err.now) (g.E.Sink.faults c.args.err.now)) in
+    short_given (task_of words) before
 
-pub returns-in-Run-clause-whole : goal.returns-in-Run-clause-whole
-returns-in-Run-clause-whole g c =
-    let files = c.args.files.now in
-    let input = c.args.input.now in
-    let out = c.args.out.now in
-    let err = c.args.err.now in
-    let task = job_of (map string_bytes c.args.words.now) in
-    let before = streams (g.O.Sink.taken out) (g.O.Sink.faults out) (g.E.Sink.taken err) (g.E.Sink.faults err) in
-    let after = streams (g.O.Sink.taken c.run_named.new.out) (g.O.Sink.faults c.run_named.new.out) (g.E.Sink.taken c.run_named.new.err) (g.E.Sink.faults c.run_named.new.err) in
-    let old = world (g.F.Folder.files files) (g.F.Folder.read_faults files) (g.F.Folder.write_faults files) (g.S.Source.left input) (g.S.Source.faults input) before in
-    let new = world (g.F.Folder.files c.run_named.new.files) (g.F.Folder.read_faults c.run_named.new.files) (g.F.Folder.write_faults c.run_named.new.files) (g.S.Source.left input) (g.S.Source.faults input) after in
-    whole_given task old new c.run_named.result (
-    run_given task c.in-Run.name.now (g.F.Folder.files files) (g.F.Folder.files c.run_named.new.files) (g.F.Folder.read_faults files) (g.F.Folder.read_faults c.run_named.new.files) (g.F.Folder.write_faults files) (g.F.Folder.write_faults c.run_named.new.files)
-    (g.S.Source.left input) (g.S.Source.faults input) before after c.run_named.result (ap job_read (sym c.in-Run.is) ∙ c.job_of.ensures) c.run_named.ensures.given
-    )
+pub returns-in-Err-clause-whole : goal.returns-in-Err-clause-whole
+returns-in-Err-clause-whole g c =
+    let words = map (string_bytes {Z = Global}) c.args.words.now in
+    let before = world (g.F.Folder.files c.args.files.now) (g.F.Folder.read_faults c.args.files.now) (g.F.Folder.write_faults c.args.files.now) (g.S.Source.left c.args.input.now) (g.S.Source.faults c.args.input.now)
+    (streams (g.O.Sink.taken c.args.out.now) (g.O.Sink.faults c.args.out.now) (g.E.Sink.taken c.args.err.now) (g.E.Sink.faults c.args.err.now)) in
+    whole_given (task_of words) before before NoMemory (short_given (task_of words) before)
+
+pub returns-in_default-clause-given : goal.returns-in_default-clause-given
+returns-in_default-clause-given g c =
+    let words = map (string_bytes {Z = Global}) c.args.words.now in
+    let before = world (g.F.Folder.files c.args.files.now) (g.F.Folder.read_faults c.args.files.now) (g.F.Folder.write_faults c.args.files.now) (g.S.Source.left c.args.input.now) (g.S.Source.faults c.args.input.now)
+    (streams (g.O.Sink.taken c.args.out.now) (g.O.Sink.faults c.args.out.now) (g.E.Sink.taken c.args.err.now) (g.E.Sink.faults c.args.err.now)) in
+    let after = world (g.F.Folder.files c.args.files.now) (g.F.Folder.read_faults c.args.files.now) (g.F.Folder.write_faults c.args.files.now) (g.S.Source.left c.args.input.now) (g.S.Source.faults c.args.input.now)
+    (streams (g.O.Sink.taken c.args.out.now) (g.O.Sink.faults c.args.out.now) (g.E.Sink.taken c.refuse_words.new.err) (g.E.Sink.faults c.refuse_words.new.err)) in
+    given_for words none before after c.refuse_words.result (none_read words c.in-Ok.asked c.in-Ok.ensures.job c.in_default.is) (usage_given before after c.refuse_words.result (refl, refl) refl refl c.refuse_words.ensures)
+
+pub returns-then-is_some-clause-given : goal.returns-then-is_some-clause-given
+returns-then-is_some-clause-given g c =
+    let words = map (string_bytes {Z = Global}) c.args.words.now in
+    let before = world (g.F.Folder.files c.args.files.now) (g.F.Folder.read_faults c.args.files.now) (g.F.Folder.write_faults c.args.files.now) (g.S.Source.left c.args.input.now) (g.S.Source.faults c.args.input.now)
+    (streams (g.O.Sink.taken c.args.out.now) (g.O.Sink.faults c.args.out.now) (g.E.Sink.taken c.args.err.now) (g.E.Sink.faults c.args.err.now)) in
+    let after = world (g.F.Folder.files c.args.files.now) (g.F.Folder.read_faults c.args.files.now) (g.F.Folder.write_faults c.args.files.now) (g.S.Source.left c.args.input.now) (g.S.Source.faults c.args.input.now)
+    (streams (g.O.Sink.taken c.args.out.now) (g.O.Sink.faults c.args.out.now) (g.E.Sink.taken c.refuse_words-then-is_some.new.err) (g.E.Sink.faults c.refuse_words-then-is_some.new.err)) in
+    given_for words none before after c.refuse_words-then-is_some.result (core_read words c.in-Ok.asked c.in-Ok.ensures.job c.in-Some.asked c.in-Some.is c.in-Run.job c.in-Run.is (search rules)) (usage_given before after c.refuse_words-then-is_some.result (refl, refl) refl refl c.refuse_words-then-is_some.ensures)
+
+pub returns-else-is_some-clause-given : goal.returns-else-is_some-clause-given
+returns-else-is_some-clause-given g c =
+    let words = map (string_bytes {Z = Global}) c.args.words.now in
+    let before = world (g.F.Folder.files c.args.files.now) (g.F.Folder.read_faults c.args.files.now) (g.F.Folder.write_faults c.args.files.now) (g.S.Source.left c.args.input.now) (g.S.Source.faults c.args.input.now)
+    (streams (g.O.Sink.taken c.args.out.now) (g.O.Sink.faults c.args.out.now) (g.E.Sink.taken c.args.err.now) (g.E.Sink.faults c.args.err.now)) in
+    let after = world (g.F.Folder.files c.run_script.new.files) (g.F.Folder.read_faults c.run_script.new.files) (g.F.Folder.write_faults c.run_script.new.files) (g.S.Source.left c.args.input.now) (g.S.Source.faults c.args.input.now)
+    (streams (g.O.Sink.taken c.run_script.new.out) (g.O.Sink.faults c.run_script.new.out) (g.E.Sink.taken c.run_script.new.err) (g.E.Sink.faults c.run_script.new.err)) in
+    let job = c.in-Run.job in
+    let b = without_input (g.F.Folder.files c.args.files.now) (g.F.Folder.read_faults c.args.files.now) (g.F.Folder.write_faults c.args.files.now)
+    (streams (g.O.Sink.taken c.args.out.now) (g.O.Sink.faults c.args.out.now) (g.E.Sink.taken c.args.err.now) (g.E.Sink.faults c.args.err.now)) in
+    let a = without_input (g.F.Folder.files c.run_script.new.files) (g.F.Folder.read_faults c.run_script.new.files) (g.F.Folder.write_faults c.run_script.new.files)
+    (streams (g.O.Sink.taken c.run_script.new.out) (g.O.Sink.faults c.run_script.new.out) (g.E.Sink.taken c.run_script.new.err) (g.E.Sink.faults c.run_script.new.err)) in
+    let asks = run_read words c.in-Ok.asked c.in-Ok.ensures.job c.in-Some.asked c.in-Some.is job c.in-Run.is (search rules) in
+    given_for words (run job.script job.options) before after c.run_script.result asks
+    (run_given job.script job.options before after b a c.run_script.result refl refl refl refl refl (refl, refl) c.run_script.ensures.given)
+
+pub returns-else-is_some-clause-whole : goal.returns-else-is_some-clause-whole
+returns-else-is_some-clause-whole g c =
+    let words = map (string_bytes {Z = Global}) c.args.words.now in
+    let before = world (g.F.Folder.files c.args.files.now) (g.F.Folder.read_faults c.args.files.now) (g.F.Folder.write_faults c.args.files.now) (g.S.Source.left c.args.input.now) (g.S.Source.faults c.args.input.now)
+    (streams (g.O.Sink.taken c.args.out.now) (g.O.Sink.faults c.args.out.now) (g.E.Sink.taken c.args.err.now) (g.E.Sink.faults c.args.err.now)) in
+    let after = world (g.F.Folder.files c.run_script.new.files) (g.F.Folder.read_faults c.run_script.new.files) (g.F.Folder.write_faults c.run_script.new.files) (g.S.Source.left c.args.input.now) (g.S.Source.faults c.args.input.now)
+    (streams (g.O.Sink.taken c.run_script.new.out) (g.O.Sink.faults c.run_script.new.out) (g.E.Sink.taken c.run_script.new.err) (g.E.Sink.faults c.run_script.new.err)) in
+    let job = c.in-Run.job in
+    let b = without_input (g.F.Folder.files c.args.files.now) (g.F.Folder.read_faults c.args.files.now) (g.F.Folder.write_faults c.args.files.now)
+    (streams (g.O.Sink.taken c.args.out.now) (g.O.Sink.faults c.args.out.now) (g.E.Sink.taken c.args.err.now) (g.E.Sink.faults c.args.err.now)) in
+    let a = without_input (g.F.Folder.files c.run_script.new.files) (g.F.Folder.read_faults c.run_script.new.files) (g.F.Folder.write_faults c.run_script.new.files)
+    (streams (g.O.Sink.taken c.run_script.new.out) (g.O.Sink.faults c.run_script.new.out) (g.E.Sink.taken c.run_script.new.err) (g.E.Sink.faults c.run_script.new.err)) in
+    let asks = run_read words c.in-Ok.asked c.in-Ok.ensures.job c.in-Some.asked c.in-Some.is job c.in-Run.is (search rules) in
+    whole_given (task_of words) before after c.run_script.result (
+    given_for words (run job.script job.options) before after c.run_script.result asks
+    (run_given job.script job.options before after b a c.run_script.result refl refl refl refl refl (refl, refl) c.run_script.ensures.given))
 
 pub returns-in-Mdb-clause-given : goal.returns-in-Mdb-clause-given
 returns-in-Mdb-clause-given g c =
-    let files = c.args.files.now in
-    let input = c.args.input.now in
-    let out = c.args.out.now in
-    let err = c.args.err.now in
-    let task = job_of (map string_bytes c.args.words.now) in
-    let before = streams (g.O.Sink.taken out) (g.O.Sink.faults out) (g.E.Sink.taken err) (g.E.Sink.faults err) in
-    let after = streams (g.O.Sink.taken c.diagnose_named.new.out) (g.O.Sink.faults c.diagnose_named.new.out) (g.E.Sink.taken c.diagnose_named.new.err) (g.E.Sink.faults c.diagnose_named.new.err) in
-    let old = world (g.F.Folder.files files) (g.F.Folder.read_faults files) (g.F.Folder.write_faults files) (g.S.Source.left input) (g.S.Source.faults input) before in
-    let new = world (g.F.Folder.files c.diagnose_named.new.files) (g.F.Folder.read_faults c.diagnose_named.new.files) (g.F.Folder.write_faults c.diagnose_named.new.files) (g.S.Source.left c.diagnose_named.new.input) (g.S.Source.faults c.diagnose_named.new.input) after in
-    mdb_given task c.in-Mdb.name.now old new c.diagnose_named.result (ap job_read (sym c.in-Mdb.is) ∙ c.job_of.ensures) c.diagnose_named.ensures.given
+    let words = map (string_bytes {Z = Global}) c.args.words.now in
+    let before = world (g.F.Folder.files c.args.files.now) (g.F.Folder.read_faults c.args.files.now) (g.F.Folder.write_faults c.args.files.now) (g.S.Source.left c.args.input.now) (g.S.Source.faults c.args.input.now)
+    (streams (g.O.Sink.taken c.args.out.now) (g.O.Sink.faults c.args.out.now) (g.E.Sink.taken c.args.err.now) (g.E.Sink.faults c.args.err.now)) in
+    let after = world (g.F.Folder.files c.diagnose.new.files) (g.F.Folder.read_faults c.diagnose.new.files) (g.F.Folder.write_faults c.diagnose.new.files) (g.S.Source.left c.diagnose.new.input) (g.S.Source.faults c.diagnose.new.input)
+    (streams (g.O.Sink.taken c.diagnose.new.out) (g.O.Sink.faults c.diagnose.new.out) (g.E.Sink.taken c.diagnose.new.err) (g.E.Sink.faults c.diagnose.new.err)) in
+    let asks = mdb_read words c.in-Ok.asked c.in-Ok.ensures.job c.in-Some.asked c.in-Some.is c.in-Mdb.job c.in-Mdb.is in
+    given_for words (mdb c.in-Mdb.job.core) before after c.diagnose.result asks c.diagnose.ensures.given
 
 pub returns-in-Mdb-clause-whole : goal.returns-in-Mdb-clause-whole
 returns-in-Mdb-clause-whole g c =
-    let files = c.args.files.now in
-    let input = c.args.input.now in
-    let out = c.args.out.now in
-    let err = c.args.err.now in
-    let task = job_of (map string_bytes c.args.words.now) in
-    let before = streams (g.O.Sink.taken out) (g.O.Sink.faults out) (g.E.Sink.taken err) (g.E.Sink.faults err) in
-    let after = streams (g.O.Sink.taken c.diagnose_named.new.out) (g.O.Sink.faults c.diagnose_named.new.out) (g.E.Sink.taken c.diagnose_named.new.err) (g.E.Sink.faults c.diagnose_named.new.err) in
-    let old = world (g.F.Folder.files files) (g.F.Folder.read_faults files) (g.F.Folder.write_faults files) (g.S.Source.left input) (g.S.Source.faults input) before in
-    let new = world (g.F.Folder.files c.diagnose_named.new.files) (g.F.Folder.read_faults c.diagnose_named.new.files) (g.F.Folder.write_faults c.diagnose_named.new.files) (g.S.Source.left c.diagnose_named.new.input) (g.S.Source.faults c.diagnose_named.new.input) after in
-    whole_given task old new c.diagnose_named.result (
-    mdb_given task c.in-Mdb.name.now old new c.diagnose_named.result (ap job_read (sym c.in-Mdb.is) ∙ c.job_of.ensures) c.diagnose_named.ensures.given
-    )
+    let words = map (string_bytes {Z = Global}) c.args.words.now in
+    let before = world (g.F.Folder.files c.args.files.now) (g.F.Folder.read_faults c.args.files.now) (g.F.Folder.write_faults c.args.files.now) (g.S.Source.left c.args.input.now) (g.S.Source.faults c.args.input.now)
+    (streams (g.O.Sink.taken c.args.out.now) (g.O.Sink.faults c.args.out.now) (g.E.Sink.taken c.args.err.now) (g.E.Sink.faults c.args.err.now)) in
+    let after = world (g.F.Folder.files c.diagnose.new.files) (g.F.Folder.read_faults c.diagnose.new.files) (g.F.Folder.write_faults c.diagnose.new.files) (g.S.Source.left c.diagnose.new.input) (g.S.Source.faults c.diagnose.new.input)
+    (streams (g.O.Sink.taken c.diagnose.new.out) (g.O.Sink.faults c.diagnose.new.out) (g.E.Sink.taken c.diagnose.new.err) (g.E.Sink.faults c.diagnose.new.err)) in
+    let asks = mdb_read words c.in-Ok.asked c.in-Ok.ensures.job c.in-Some.asked c.in-Some.is c.in-Mdb.job c.in-Mdb.is in
+    whole_given (task_of words) before after c.diagnose.result (given_for words (mdb c.in-Mdb.job.core) before after c.diagnose.result asks c.diagnose.ensures.given)
 
-pub returns-in-Nothing-clause-given : goal.returns-in-Nothing-clause-given
-returns-in-Nothing-clause-given g c =
-    let files = c.args.files.now in
-    let input = c.args.input.now in
-    let out = c.args.out.now in
-    let err = c.args.err.now in
-    let task = job_of (map string_bytes c.args.words.now) in
-    let before = streams (g.O.Sink.taken out) (g.O.Sink.faults out) (g.E.Sink.taken err) (g.E.Sink.faults err) in
-    let after = streams (g.O.Sink.taken out) (g.O.Sink.faults out) (g.E.Sink.taken c.refuse_words.new.err) (g.E.Sink.faults c.refuse_words.new.err) in
-    let old = world (g.F.Folder.files files) (g.F.Folder.read_faults files) (g.F.Folder.write_faults files) (g.S.Source.left input) (g.S.Source.faults input) before in
-    let new = world (g.F.Folder.files files) (g.F.Folder.read_faults files) (g.F.Folder.write_faults files) (g.S.Source.left input) (g.S.Source.faults input) after in
-    usage_given task old new c.refuse_words.result (ap job_read (sym c.in-Nothing.is) ∙ c.job_of.ensures) refl refl refl refl c.refuse_words.ensures
-
-pub returns-in-Nothing-clause-whole : goal.returns-in-Nothing-clause-whole
-returns-in-Nothing-clause-whole g c =
-    let files = c.args.files.now in
-    let input = c.args.input.now in
-    let out = c.args.out.now in
-    let err = c.args.err.now in
-    let task = job_of (map string_bytes c.args.words.now) in
-    let before = streams (g.O.Sink.taken out) (g.O.Sink.faults out) (g.E.Sink.taken err) (g.E.Sink.faults err) in
-    let after = streams (g.O.Sink.taken out) (g.O.Sink.faults out) (g.E.Sink.taken c.refuse_words.new.err) (g.E.Sink.faults c.refuse_words.new.err) in
-    let old = world (g.F.Folder.files files) (g.F.Folder.read_faults files) (g.F.Folder.write_faults files) (g.S.Source.left input) (g.S.Source.faults input) before in
-    let new = world (g.F.Folder.files files) (g.F.Folder.read_faults files) (g.F.Folder.write_faults files) (g.S.Source.left input) (g.S.Source.faults input) after in
-    whole_given task old new c.refuse_words.result (
-    usage_given task old new c.refuse_words.result (ap job_read (sym c.in-Nothing.is) ∙ c.job_of.ensures) refl refl refl refl c.refuse_words.ensures
-    )
+pub returns-in-Make-clause-given : goal.returns-in-Make-clause-given
+returns-in-Make-clause-given g c =
+    let words = map (string_bytes {Z = Global}) c.args.words.now in
+    let before = world (g.F.Folder.files c.args.files.now) (g.F.Folder.read_faults c.args.files.now) (g.F.Folder.write_faults c.args.files.now) (g.S.Source.left c.args.input.now) (g.S.Source.faults c.args.input.now)
+    (streams (g.O.Sink.taken c.args.out.now) (g.O.Sink.faults c.args.out.now) (g.E.Sink.taken c.args.err.now) (g.E.Sink.faults c.args.err.now)) in
+    let after = world (g.F.Folder.files c.args.files.now) (g.F.Folder.read_faults c.args.files.now) (g.F.Folder.write_faults c.args.files.now) (g.S.Source.left c.args.input.now) (g.S.Source.faults c.args.input.now)
+    (streams (g.O.Sink.taken c.args.out.now) (g.O.Sink.faults c.args.out.now) (g.E.Sink.taken c.refuse_words-in-Make.new.err) (g.E.Sink.faults c.refuse_words-in-Make.new.err)) in
+    given_for words none before after c.refuse_words-in-Make.result (make_read words c.in-Ok.asked c.in-Ok.ensures.job c.in-Some.asked c.in-Some.is c.in-Make.field-0 c.in-Make.is) (usage_given before after c.refuse_words-in-Make.result (refl, refl) refl refl c.refuse_words-in-Make.ensures)
