@@ -70,8 +70,8 @@ abbrev pub IsStatusOf : Option (List ℕ) → Status → Type 0
 IsStatusOf None status = (status ≡ Done) ⊎ (status ≡ Refused)
 IsStatusOf (Some commands) status = status ≡ commands_status commands
 
--- Where a script or a core is there and no count rose, the call is done, or memory was short. Words that ask for neither
--- are refused, or memory was short.
+-- Where a script or a core is there and no count rose, the call is done, or memory was short. Words that ask for
+-- neither are refused, or memory was short.
 abbrev pub IsWholeOf : Task → World → World → Status → Type 0
 IsWholeOf (run name options) before after status =
     IsScriptThere name before → HasNoFault before after → (status ≡ Done) ⊎ (status ≡ NoMemory)

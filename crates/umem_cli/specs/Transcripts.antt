@@ -69,4 +69,5 @@ WantsRun guards name before after wanted =
 
 -- what such a run gives out
 abbrev pub GivenByRun : Bool → List ℕ → World → World → Status → Type 0
-GivenByRun guards name before after status = GivesOut (WantsRun guards name before after) before.streams after.streams status
+GivenByRun guards name before after status =
+    GivesOut (WantsRun guards name before after) before.streams after.streams status
