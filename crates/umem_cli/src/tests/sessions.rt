@@ -194,7 +194,8 @@ fn ends_at_each_fault(rt: HostRuntime) -> Result<(), Fail> {
     ] {
         let outcome = call_mdb(&rt, rt.alloc(), &core, COMMANDS, failing)?;
         assert_eq!(rt; outcome.number, status.code());
-        assert_eq!(rt; outcome.out.bytes(), &ANSWERS[..taken]);
+        assert_eq!(rt; outcome.out.bytes().len(), taken);
+        assert!(rt; ANSWERS.starts_with(outcome.out.bytes()));
         assert_eq!(rt; outcome.err.bytes(), said);
     }
     Ok(())
