@@ -1,9 +1,6 @@
 pub mod Answers
 pub mod Bytes
 pub mod Calls
-pub mod FirstAnswers
-pub mod FirstMeaning
-pub mod FirstReplies
 pub mod Frees
 pub mod Good
 pub mod History
