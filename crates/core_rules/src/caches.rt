@@ -4,18 +4,7 @@ ghost use Rattle.core_rules.specs.Pieces.{cache_items_of, count_of_caches, numbe
 use case_table::{CLASS_COUNT, CacheDef, class_def};
 use core_format::CacheItem;
 use std::alloc::Global;
-use umem_base::{NoMemory, Text};
-
-fn copied(alloc: Global, def: &CacheDef) -> Result<CacheDef, NoMemory>
-    ensures { IfOk result (λ copy. copy ≡ def.now) }
-{
-    Ok(CacheDef {
-        name: Text::from_slice(alloc, def.name.as_slice())?,
-        size: def.size,
-        align: def.align,
-        ctor: def.ctor,
-    })
-}
+use umem_base::NoMemory;
 
 fn numbered_def(alloc: Global, declared: &[CacheDef], cache: usize) -> Result<CacheDef, NoMemory>
     requires { cache < count_of_caches declared.now }
@@ -24,7 +13,7 @@ fn numbered_def(alloc: Global, declared: &[CacheDef], cache: usize) -> Result<Ca
     if cache < CLASS_COUNT as usize {
         return class_def(alloc, cache as u32);
     }
-    copied(alloc, &declared[cache - CLASS_COUNT as usize])
+    Ok(declared[cache - CLASS_COUNT as usize].clone()?)
 }
 
 /// The caches of a core: the size classes and behind them the declared ones, each with how many slabs it made.
