@@ -1,10 +1,11 @@
 -- How contracts speak of a memory by the states that it may be of.
-use Rattle.std.specs.Prelude.{◌≡◌, ℕ, Bool, Option, Some, None, Contains, MatchOption}
+use Rattle.std.specs.Prelude.{◌≡◌, ℕ, ◌↔◌, Bool, List, Option, Some, None, Contains, MatchOption}
+use Rattle.umem_base.specs.declared.span.Span.{Span}
 use Rattle.umem_base.specs.Pages.{HasNoRun, IsLowestRun}
 use Rattle.script.specs.Rules.{IsHeader}
 use Rattle.plain_heap.specs.Laws.{AreSeparate, large}
 use Rattle.plain_heap.specs.Setting.{Setting}
-use Rattle.plain_heap.specs.State.{HeapSlab, IsFreePage, State, after_grow, hand_out, held_at}
+use Rattle.plain_heap.specs.State.{HeapSlab, IsFreePage, State, after_grow, hand_out, held_at, spans_of}
 use Rattle.heap_memory.specs.Memory.{IsMemoryOf, Memory}
 
 -- a fact holds of each state that the memory is of, whatever the setting
@@ -54,3 +55,9 @@ pub record HasSlabAt (base : ℕ) (setting : Setting) (state : State) : Type 0 w
   pub slab : HeapSlab
   pub stands : Contains state.slabs slab
   pub there : slab.base ≡ base
+
+-- ---- runs that are taken
+
+-- these are the runs of pages of a state
+abbrev pub AreSpansOf : Setting → State → List Span → Type 0
+AreSpansOf setting state spans = (span : Span) → Contains spans span ↔ Contains (spans_of setting state) span

@@ -1,6 +1,7 @@
-ghost use Rattle.std.specs.Prelude.{◌≡◌, ℕ, ◌+◌, ◌*◌, ◌<◌, ◌≤◌, ◌^◌, ◌↔◌, Bool, IfOk, IfSome, MatchResult, IsTrue, OnErr, Some, length};
+ghost use Rattle.std.specs.Prelude.{◌≡◌, ℕ, ◌+◌, ◌*◌, ◌<◌, ◌≤◌, ◌^◌, ◌↔◌, AllPairs, Bool, Contains, IfOk, IfSome, MatchResult, IsTrue, OnErr, Some, length};
 ghost use Rattle.umem_base.specs.declared.pages.TheConstants.{PAGE_BYTES};
 ghost use Rattle.umem_base.specs.Pages.{pages_for};
+ghost use Rattle.umem_base.specs.Span.{EndsBelow};
 ghost use Rattle.script.specs.Rules.{IsHeader};
 ghost use Rattle.case_table.specs.Geometry.{IsAlign};
 ghost use Rattle.plain_heap.specs.Laws.{AreSeparate};
@@ -11,7 +12,7 @@ ghost use Rattle.plain_heap.specs.State.{after_link, after_shrink, after_store, 
 ghost use Rattle.heap_memory.specs.Chunks.{HasNumbers, HoldsChunk, IsChunkAt, IsKind, IsNextSlab, IsRequested, bytes_of_kind};
 ghost use Rattle.heap_memory.specs.Memory.{IsMemory, IsMemoryOf};
 ghost use Rattle.heap_memory.specs.Pages.{Closes, HasSameSpans, HasSlot, HasSpan, OpensLowest};
-ghost use Rattle.heap_memory.specs.States.{Becomes, BecomesIf, ForEachState, HasSlabAt, IsLargeAt, IsLowestOrNone, Keeps, after_large, after_slab};
+ghost use Rattle.heap_memory.specs.States.{AreSpansOf, Becomes, BecomesIf, ForEachState, HasSlabAt, IsLargeAt, IsLowestOrNone, Keeps, after_large, after_slab};
 
 use crate::chunk::Chunk;
 use crate::chunk_bytes::{bytes_of_kind, shape_of_kind, write_chunks, write_freed, write_handed};
@@ -27,7 +28,7 @@ use script::Header;
 use span_arena::Arena;
 use std::alloc::Global;
 use std::marker::Model;
-use umem_base::{ARENA_BASE, NoMemory, arena_pages, pages_for};
+use umem_base::{ARENA_BASE, NoMemory, PAGE_BYTES, Span, arena_pages, pages_for};
 
 /// The root pages of a heap and the pages of its slabs and large buffers, with their bytes. Contracts see the mapped
 /// bytes and the arena.
@@ -228,6 +229,31 @@ impl Memory {
             result.now ≡ bytes_from heap.bytes chunk.address (bytes_of_kind kind.now)) self.now }
     {
         match self.space.bytes_of(chunk.address, bytes_of_kind(kind)) {
+            Some(bytes) => bytes,
+            None => unreachable!(),
+        }
+    }
+
+    /// The runs of pages of the slabs and of the large buffers, by rising base.
+    pub fn spans(&self) -> &[Span]
+        ensures spans { result.now ≡ self.now.arena.spans }
+        ensures rising { AllPairs EndsBelow result.now }
+        ensures exactly { ForEachState (λ setting state. AreSpansOf setting state result.now) self.now }
+    {
+        // A read of a field shows a proof what every memory keeps.
+        let _ = &self.space;
+        self.arena.spans()
+    }
+
+    /// The bytes of the pages of a taken run.
+    pub fn span_bytes(&self, span: Span) -> &[u8]
+        requires { Contains self.now.arena.spans span }
+        ensures { ForEachState (λ setting state.
+            result.now ≡ bytes_from state.bytes span.base (PAGE_BYTES * span.pages)) self.now }
+    {
+        let _ = &self.space;
+        let count = (PAGE_BYTES * span.pages) as usize;
+        match self.space.bytes_of(span.base, count) {
             Some(bytes) => bytes,
             None => unreachable!(),
         }

@@ -136,10 +136,15 @@ AreCachesOf setting state caches =
 abbrev pub AreFirst : Setting → List CacheSlabs → Type 0
 AreFirst setting caches = AreCachesOf setting start_state caches
 
+-- these are exactly the slabs of a state, each with as many live chunks
+abbrev pub AreStandingSlabs : Setting → State → List Standing → Type 0
+AreStandingSlabs setting state slabs =
+    (one : Standing) → Contains slabs one ↔ Contains (map (standing_in setting state) state.slabs) one
+
 -- The table is that of a state: each cache is that of the setting and made as many slabs as in the state, the next
 -- chunk is that of the state, and the slabs are exactly those that stand in the state, with as many live chunks each.
 pub record IsTableOf (setting : Setting) (state : State) (table : HeapSlabs) : Type 0 where
   pub count : length table.caches ≡ CLASS_COUNT + length setting.header.caches
   pub caches : AreCachesOf setting state table.caches
   pub next : table.next ≡ next_chunk setting state
-  pub slabs : (one : Standing) → Contains table.slabs one ↔ Contains (map (standing_in setting state) state.slabs) one
+  pub slabs : AreStandingSlabs setting state table.slabs

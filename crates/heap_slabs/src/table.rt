@@ -3,7 +3,8 @@ ghost use Rattle.script.specs.Rules.{IsHeader};
 ghost use Rattle.case_table.specs.Geometry.{IsAlign};
 ghost use Rattle.heap_ledger.specs.Commits.{AreReaped, after_shrinks};
 ghost use Rattle.plain_heap.specs.Live.{TellsLive};
-ghost use Rattle.plain_heap.specs.State.{after_grow, give_back, hand_out, is_live, start_state};
+ghost use Rattle.plain_heap.specs.Setting.{geometry_in};
+ghost use Rattle.plain_heap.specs.State.{after_grow, give_back, grows_of, hand_out, is_live, next_chunk, start_state};
 ghost use Rattle.plain_heap.specs.declared.held.Held.{Held};
 ghost use Rattle.heap_memory.specs.Chunks.{IsKind, IsNextSlab, kind_in};
 ghost use Rattle.heap_slabs.specs.Chunks.{HasNoChunk, HasNoFreeChunk, IsFreeAt, IsLowestFreeChunk, IsNextUnused, IsNumberedAs, placed_at};
@@ -18,6 +19,7 @@ use crate::placed::Placed;
 use crate::search::address_in;
 use crate::standing::Standing;
 use crate::standing_slabs::StandingSlabs;
+use case_table::{Geometry, geometry};
 use heap_ledger::SlabAt;
 use heap_memory::{Chunk, ChunkKind, NewSlab};
 use plain_heap::Live;
@@ -114,6 +116,30 @@ impl HeapSlabs {
         ensures sound { IsKind result.now }
     {
         &self.caches[cache as usize].kind
+    }
+
+    /// The quantities of a cache's slabs.
+    pub fn quantities(&self, cache: u32) -> Geometry
+        requires { cache < length self.now.caches }
+        ensures { ForEachTabled (λ setting state. result ≡ geometry_in setting cache) self.now }
+    {
+        let its = &self.caches[cache as usize];
+        geometry(its.kind.size, its.align, its.kind.guards)
+    }
+
+    /// How many slabs a cache ever made.
+    pub fn made(&self, cache: u32) -> u32
+        requires { cache < length self.now.caches }
+        ensures { ForEachTabled (λ setting state. result ≡ grows_of state cache) self.now }
+    {
+        self.caches[cache as usize].made
+    }
+
+    /// The number that the next chunk gets.
+    pub fn next_chunk(&self) -> u32
+        ensures { ForEachTabled (λ setting state. result ≡ next_chunk setting state) self.now }
+    {
+        self.next
     }
 
     /// Takes the memory for one slab more. On a refusal nothing changed.
