@@ -1,5 +1,0 @@
-use Rattle.heap_books.proofs.PlacingLemmas.{answers_change}
-use Rattle.heap_books.proofs.laws.answers_change_places.Goals as goal
-
-pub returns : goal.returns
-returns c = answers_change

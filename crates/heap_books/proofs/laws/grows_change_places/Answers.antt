@@ -1,5 +1,0 @@
-use Rattle.heap_books.proofs.PlacingLemmas.{grows_change}
-use Rattle.heap_books.proofs.laws.grows_change_places.Goals as goal
-
-pub returns : goal.returns
-returns c = grows_change

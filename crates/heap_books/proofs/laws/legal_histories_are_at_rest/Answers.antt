@@ -1,5 +1,0 @@
-use Rattle.heap_books.proofs.PlacingLemmas.{legal_at_rest}
-use Rattle.heap_books.proofs.laws.legal_histories_are_at_rest.Goals as goal
-
-pub returns : goal.returns
-returns c = legal_at_rest

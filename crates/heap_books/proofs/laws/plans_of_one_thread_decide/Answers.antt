@@ -1,5 +1,0 @@
-use Rattle.heap_books.proofs.OneThreadLemmas.{plans_decide}
-use Rattle.heap_books.proofs.laws.plans_of_one_thread_decide.Goals as goal
-
-pub returns : goal.returns
-returns c = plans_decide

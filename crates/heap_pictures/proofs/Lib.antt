@@ -1,0 +1,25 @@
+mod OneListLemmas
+mod DrawLemmas
+mod DrawnLargeLemmas
+mod ShapeLemmas
+mod ByteLemmas
+mod NumberLemmas
+mod CacheLemmas
+mod ToldLemmas
+mod SlabLemmas
+mod SizeLemmas
+mod LargeLemmas
+mod PieceLemmas
+mod HeldLemmas
+mod OnceLemmas
+mod PlaceLemmas
+mod AllocatedLemmas
+mod KeptLemmas
+mod EntryLemmas
+mod TransLemmas
+mod FailLemmas
+mod SavedLemmas
+mod AuditLemmas
+mod CountLemmas
+mod LogLemmas
+pub mod WholeLemmas

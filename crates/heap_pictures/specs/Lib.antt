@@ -1,0 +1,4 @@
+pub mod Items
+pub mod Drawn
+pub mod Pictures
+pub mod Laws
