@@ -1,0 +1,8 @@
+pub mod EnterLemmas
+pub mod JournalLemmas
+pub mod MadeLemmas
+pub mod AllocLemmas
+pub mod CachesLemmas
+mod OneListLemmas
+mod RangeLemmas
+mod FreedLemmas

@@ -1,0 +1,4 @@
+pub mod Journal
+pub mod Books
+pub mod Made
+pub mod Freed
