@@ -16,13 +16,13 @@ use Rattle.plain_heap.specs.Setting.{Setting, cache_def_in}
 use Rattle.plain_heap.specs.State.{State}
 use Rattle.heap_ledger.specs.Ledger.{IsLedger, Ledger}
 use Rattle.heap_ledger.proofs.PlanLemmas.{next_keeps}
-use Rattle.heap_books.specs.declared.chunk_request.ChunkRequest.{ChunkRequest}
-use Rattle.heap_books.specs.Kinds.{chunk_request, class_request, is_chunk_call}
-use Rattle.heap_books.specs.Laws.{at_rest, cache_asked}
-use Rattle.heap_books.specs.Performed.{IsPerformed, IsPerformedChunk, IsPerformedRequest}
-use Rattle.heap_books.specs.Places.{Places, places_by_call, places_by_chunk, places_by_request}
-use Rattle.heap_books.specs.Turns.{due_of}
-use Rattle.heap_books.proofs.BooksLemmas.{due_is_next}
+use Rattle.heap_accounts.specs.declared.chunk_request.ChunkRequest.{ChunkRequest}
+use Rattle.heap_accounts.specs.Kinds.{chunk_request, class_request, is_chunk_call}
+use Rattle.heap_accounts.specs.Laws.{at_rest, cache_asked}
+use Rattle.heap_accounts.specs.Performed.{IsPerformed, IsPerformedChunk, IsPerformedRequest}
+use Rattle.heap_accounts.specs.Places.{Places, places_by_call, places_by_chunk, places_by_request}
+use Rattle.heap_accounts.specs.Turns.{due_of}
+use Rattle.heap_accounts.proofs.AccountsLemmas.{due_is_next}
 use Rattle.heap_core.specs.ChunkCalls.{IsChunkDue}
 
 -- ---- operations

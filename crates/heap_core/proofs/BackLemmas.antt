@@ -20,14 +20,14 @@ use Rattle.plain_heap.proofs.SlabOfChunk.{begun, find_found}
 use Rattle.heap_ledger.specs.Commits.{IsTidyReply}
 use Rattle.heap_ledger.specs.Ledger.{IsLedger, Ledger, run_setting, run_state}
 use Rattle.heap_slabs.specs.declared.placed.Placed.{Placed}
-use Rattle.heap_books.specs.FreeChunks.{IsStockOf}
-use Rattle.heap_books.specs.Frees.{IsRoundOf, number_back}
-use Rattle.heap_books.specs.Kinds.{freed_slot, is_free}
-use Rattle.heap_books.specs.Laws.{at_rest}
-use Rattle.heap_books.specs.Places.{Places, has_chunk_number, places_by_call, places_by_free, slab_with_number, with_put}
-use Rattle.heap_books.proofs.FreeRoundLemmas.{IsGood, IsSeat, number_one, seat_of, start_at}
+use Rattle.heap_accounts.specs.FreeChunks.{IsStockOf}
+use Rattle.heap_accounts.specs.Frees.{IsRoundOf, number_back}
+use Rattle.heap_accounts.specs.Kinds.{freed_slot, is_free}
+use Rattle.heap_accounts.specs.Laws.{at_rest}
+use Rattle.heap_accounts.specs.Places.{Places, has_chunk_number, places_by_call, places_by_free, slab_with_number, with_put}
+use Rattle.heap_accounts.proofs.FreeRoundLemmas.{IsGood, IsSeat, number_one, seat_of, start_at}
 use Rattle.plain_heap.proofs.RisingLemmas.{all_rising, find_none, index_told}
-use Rattle.heap_books.proofs.SlabLemmas.{stands_for}
+use Rattle.heap_accounts.proofs.SlabLemmas.{stands_for}
 
 -- ---- what a legal history leaves
 

@@ -11,12 +11,12 @@ use Rattle.plain_heap.specs.Setting.{Setting}
 use Rattle.plain_heap.specs.State.{State}
 use Rattle.heap_ledger.specs.Commits.{IsTidyReply}
 use Rattle.heap_ledger.specs.Ledger.{Ledger, after_commit, run_setting, run_state, shrunk}
-use Rattle.heap_books.specs.declared.large_request.LargeRequest.{LargeRequest}
-use Rattle.heap_books.specs.Kinds.{is_free, is_large, is_large_size, is_plain_call, is_reap_call}
-use Rattle.heap_books.specs.Laws.{at_rest}
-use Rattle.heap_books.specs.Performed.{IsPerformed, IsPerformedReap, IsPerformedRequest}
-use Rattle.heap_books.specs.Places.{Places, places_by_call, places_by_request}
-use Rattle.heap_books.specs.Turns.{Makes, MakesFree, MakesReap}
+use Rattle.heap_accounts.specs.declared.large_request.LargeRequest.{LargeRequest}
+use Rattle.heap_accounts.specs.Kinds.{is_free, is_large, is_large_size, is_plain_call, is_reap_call}
+use Rattle.heap_accounts.specs.Laws.{at_rest}
+use Rattle.heap_accounts.specs.Performed.{IsPerformed, IsPerformedReap, IsPerformedRequest}
+use Rattle.heap_accounts.specs.Places.{Places, places_by_call, places_by_request}
+use Rattle.heap_accounts.specs.Turns.{Makes, MakesFree, MakesReap}
 use Rattle.heap_core.specs.Heap.{run_places}
 use Rattle.heap_core.specs.Performs.{PerformsCall}
 use Rattle.heap_core.proofs.DueLemmas.{is_due}

@@ -7,11 +7,11 @@ use Rattle.script.specs.declared.operation.Op.{Op}
 use Rattle.script.specs.Plan.{Call}
 use Rattle.plain_heap.specs.Calls.{due_call}
 use Rattle.heap_ledger.specs.Ledger.{Ledger}
-use Rattle.heap_books.specs.declared.asked.Asked.TheVariants as asked
-use Rattle.heap_books.specs.Asked.{asked_of}
-use Rattle.heap_books.specs.Laws.{IsOfKindAsked}
-use Rattle.heap_books.specs.Turns.{Waits, due_of}
-use Rattle.heap_books.proofs.AskedLemmas.{asked_kind}
+use Rattle.heap_accounts.specs.declared.asked.Asked.TheVariants as asked
+use Rattle.heap_accounts.specs.Asked.{asked_of}
+use Rattle.heap_accounts.specs.Laws.{IsOfKindAsked}
+use Rattle.heap_accounts.specs.Turns.{Waits, due_of}
+use Rattle.heap_accounts.proofs.AskedLemmas.{asked_kind}
 use Rattle.heap_core.specs.ChunkCalls.{IsChunkDue}
 
 -- a call that is due and of a kind

@@ -13,7 +13,6 @@ use Rattle.script.specs.Plan.{Call, Plan, call_count}
 use Rattle.plain_heap.specs.declared.entry.Body.{Body}
 use Rattle.plain_heap.specs.declared.entry.Body.TheVariants as body
 use Rattle.plain_heap.specs.declared.reply.Reply.{Reply}
-use Rattle.plain_heap.specs.declared.entry.Entry.{Entry}
 use Rattle.plain_heap.specs.Answers.{Answers, AreTidy, setting_for}
 use Rattle.plain_heap.specs.Calls.{Follows, IsFinished, due_call, turns_made}
 use Rattle.plain_heap.specs.Legal.{IsLegal}
@@ -21,16 +20,15 @@ use Rattle.plain_heap.specs.Setting.{Setting}
 use Rattle.plain_heap.specs.State.{State}
 use Rattle.heap_ledger.specs.Ledger.{AreInner, IsLedger, Ledger, run_setting, run_state}
 use Rattle.heap_ledger.proofs.CommitLemmas.{one_call, shrinks_are_inner}
-use Rattle.heap_books.specs.declared.due.Due.{Due}
-use Rattle.heap_books.specs.declared.turn.Turn.{Turn}
-use Rattle.heap_books.specs.declared.turn.Turn.TheVariants.{Behind, Made}
-use Rattle.heap_books.specs.Finish.{GoesOn, IsNextDue, MakesCall}
-use Rattle.heap_books.specs.Performed.{IsFoundWithin, IsGrown, IsPerformed, IsPerformedRequest}
-use Rattle.heap_books.specs.Placed.{IsPlaced}
-use Rattle.heap_books.specs.Places.{Places, cpu_of, stock_at}
-use Rattle.heap_books.proofs.BooksLemmas.{is_left}
-use Rattle.heap_books.proofs.FinishLemmas.{calls_left, goes_on, next_is_due}
-use Rattle.heap_core.specs.Heap.{run_places}
+use Rattle.heap_accounts.specs.declared.due.Due.{Due}
+use Rattle.heap_accounts.specs.declared.turn.Turn.{Turn}
+use Rattle.heap_accounts.specs.declared.turn.Turn.TheVariants.{Behind, Made}
+use Rattle.heap_accounts.specs.Finish.{GoesOn, IsNextDue, MakesCall}
+use Rattle.heap_accounts.specs.Performed.{IsFoundWithin, IsGrown, IsPerformed, IsPerformedRequest}
+use Rattle.heap_accounts.specs.Places.{Places, cpu_of, stock_at}
+use Rattle.heap_accounts.proofs.AccountsLemmas.{is_left}
+use Rattle.heap_accounts.proofs.FinishLemmas.{calls_left, goes_on, next_is_due}
+use Rattle.heap_core.specs.Heap.{IsGiven, run_places}
 use Rattle.heap_core.specs.Performs.{PerformsTurn}
 
 -- ---- what a call adds before its own entry
@@ -107,7 +105,8 @@ abbrev pub first_ledger : Plan → Options → Logging → Ledger
 first_ledger plan options logging = record { plan = plan; options = options; logging = logging; entries = [] }
 
 -- what it goes on to is a run of the same script, which is over where all calls were made
-module _ (plan : Plan) (options : Options) (logging : Logging) (first last : Ledger) (items : List Entry) (is : first ≡ first_ledger plan options logging) (goes : GoesOn first last) (same : items ≡ last.entries) where
+module _ (plan : Plan) (options : Options) (logging : Logging) (first last : Ledger)
+    (is : first ≡ first_ledger plan options logging) (goes : GoesOn first last) where
   same_plan : last.plan ≡ plan
   same_plan = goes.plan ∙ ap (λ (l : Ledger). l.plan) is
 
@@ -116,15 +115,18 @@ module _ (plan : Plan) (options : Options) (logging : Logging) (first last : Led
       ap (λ (o : Options). setting_for (has_guards o) last.plan) (goes.options ∙ ap (λ (l : Ledger). l.options) is)
       ∙ ap (setting_for (has_guards options)) same_plan
 
-  pub run_answers : IsLedger last → IsFinished last.plan last.entries → Answers (has_guards options) plan items
-  run_answers sound done =
-      subst (Answers (has_guards options) plan) (sym same) (record {
-        legal = subst (λ (s : Setting). IsLegal s last.entries) same_setting sound.legal;
-        follows = subst (λ (p : Plan). Follows p last.entries) same_plan sound.follows;
-        finished = subst (λ (p : Plan). IsFinished p last.entries) same_plan done;
-        tidy = subst (λ (s : Setting). AreTidy s last.entries) same_setting sound.tidy;
-      })
+  pub run_answers : IsLedger last → IsFinished last.plan last.entries → Answers (has_guards options) plan last.entries
+  run_answers sound done = record {
+    legal = subst (λ (s : Setting). IsLegal s last.entries) same_setting sound.legal;
+    follows = subst (λ (p : Plan). Follows p last.entries) same_plan sound.follows;
+    finished = subst (λ (p : Plan). IsFinished p last.entries) same_plan done;
+    tidy = subst (λ (s : Setting). AreTidy s last.entries) same_setting sound.tidy;
+  }
 
-  pub run_placed : IsPlaced (run_setting last) last.entries → IsPlaced (setting_for (has_guards options) plan) items
-  run_placed placed =
-      subst (IsPlaced (setting_for (has_guards options) plan)) (sym same) (subst (λ (s : Setting). IsPlaced s last.entries) same_setting placed)
+  -- it was given the same
+  pub run_given : IsGiven plan options logging last
+  run_given = record {
+    plan = same_plan;
+    options = goes.options ∙ ap (λ (l : Ledger). l.options) is;
+    logging = goes.logging ∙ ap (λ (l : Ledger). l.logging) is;
+  }

@@ -13,13 +13,13 @@ use Rattle.script.specs.Plan.{Call}
 use Rattle.plain_heap.specs.declared.reply.Reply.{Reply}
 use Rattle.plain_heap.specs.Calls.{due_call}
 use Rattle.heap_ledger.specs.Ledger.{Ledger, after_commit, run_setting, run_state}
-use Rattle.heap_books.specs.declared.turn.Turn.{Turn}
-use Rattle.heap_books.specs.declared.turn.Turn.TheVariants.{Behind, Made}
-use Rattle.heap_books.specs.Grows.{HasNoRunOf}
-use Rattle.heap_books.specs.Laws.{cache_asked}
-use Rattle.heap_books.specs.Performed.{IsFoundWithin, IsHandedOut, IsPerformedChunk}
-use Rattle.heap_books.specs.Places.{cpu_of, taken, with_stock}
-use Rattle.heap_books.proofs.PlacingLemmas.{answers_change}
+use Rattle.heap_accounts.specs.declared.turn.Turn.{Turn}
+use Rattle.heap_accounts.specs.declared.turn.Turn.TheVariants.{Behind, Made}
+use Rattle.heap_accounts.specs.Grows.{HasNoRunOf}
+use Rattle.heap_accounts.specs.Laws.{cache_asked}
+use Rattle.heap_accounts.specs.Performed.{IsFoundWithin, IsHandedOut, IsPerformedChunk}
+use Rattle.heap_accounts.specs.Places.{cpu_of, taken, with_stock}
+use Rattle.heap_accounts.proofs.PlacingLemmas.{answers_change}
 use Rattle.heap_core.specs.ChunkCalls.{CanHandRound, GivesChunk, GivesNothing, GivesRound, HandsRound, HasNothing, IsAskedOf, PerformsChunk, Refuses}
 use Rattle.heap_core.specs.Heap.{run_places}
 use Rattle.heap_core.proofs.AskedLemmas.{is_performed, places_left}

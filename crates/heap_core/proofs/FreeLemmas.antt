@@ -9,10 +9,10 @@ use Rattle.plain_heap.specs.State.{HeapSlab, State, word_of_slot}
 use Rattle.plain_heap.proofs.PlacesLemmas.{is_cache_of}
 use Rattle.heap_ledger.specs.Ledger.{Ledger, run_setting, run_state}
 use Rattle.heap_ledger.proofs.MayCommitLemmas.{answers_step}
-use Rattle.heap_books.specs.Kinds.{is_free}
-use Rattle.heap_books.specs.Places.{Places, cache_count, slab_with_number, stock_at, with_stock}
-use Rattle.heap_books.specs.Turns.{MakesFree}
-use Rattle.heap_books.proofs.NumberLemmas.{call_same}
+use Rattle.heap_accounts.specs.Kinds.{is_free}
+use Rattle.heap_accounts.specs.Places.{Places, cache_count, slab_with_number, stock_at, with_stock}
+use Rattle.heap_accounts.specs.Turns.{MakesFree}
+use Rattle.heap_accounts.proofs.NumberLemmas.{call_same}
 use Rattle.heap_core.specs.Heap.{IsHeap, run_places}
 use Rattle.heap_core.specs.Shelves.{CanPut, HasCpus, stocks_of, with_round_back}
 use Rattle.heap_core.proofs.BackLemmas.{back_out, chunk_back, gave_back, good_state, lived, none_back, number_found, some_back}

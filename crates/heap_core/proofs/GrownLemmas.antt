@@ -21,15 +21,15 @@ use Rattle.plain_heap.proofs.RunsLemmas.{new_run}
 use Rattle.plain_heap.proofs.SeparateLemmas.{history_in_place}
 use Rattle.plain_heap.proofs.SettingLemmas.{geometry_in-sound}
 use Rattle.heap_ledger.specs.Ledger.{Ledger, after_commit, grown, run_setting, run_state}
-use Rattle.heap_books.specs.declared.fresh.Fresh.{Fresh}
-use Rattle.heap_books.specs.Grows.{HasNoRunOf, IsFresh, fresh_slab, fresh_start, fresh_state}
-use Rattle.heap_books.specs.Kinds.{is_chunk_call}
-use Rattle.heap_books.specs.Performed.{IsFoundWithin, IsPerformedChunk, answer_at}
-use Rattle.heap_books.specs.Places.{cpu_of, rounds_of, with_stock}
-use Rattle.heap_books.specs.Turns.{HasNoRunFor, MakesGrown, Waits}
-use Rattle.heap_books.proofs.PlacingLemmas.{grows_change}
+use Rattle.heap_accounts.specs.declared.fresh.Fresh.{Fresh}
+use Rattle.heap_accounts.specs.Grows.{HasNoRunOf, IsFresh, fresh_slab, fresh_start, fresh_state}
+use Rattle.heap_accounts.specs.Kinds.{is_chunk_call}
+use Rattle.heap_accounts.specs.Performed.{IsFoundWithin, IsPerformedChunk, answer_at}
+use Rattle.heap_accounts.specs.Places.{cpu_of, rounds_of, with_stock}
+use Rattle.heap_accounts.specs.Turns.{HasNoRunFor, MakesGrown, Waits}
+use Rattle.heap_accounts.proofs.PlacingLemmas.{grows_change}
 use Rattle.plain_heap.proofs.RisingLemmas.{AreRising, all_rising}
-use Rattle.heap_books.proofs.SlabLemmas.{came_from}
+use Rattle.heap_accounts.proofs.SlabLemmas.{came_from}
 use Rattle.heap_core.specs.ChunkCalls.{IsAskedOf, PerformsChunk}
 use Rattle.heap_core.specs.Heap.{run_places}
 use Rattle.heap_core.proofs.AskedLemmas.{asks_cache, cache_reply, call_is, is_known, is_performed, not_behind}

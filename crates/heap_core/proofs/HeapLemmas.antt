@@ -7,13 +7,13 @@ use Rattle.shelf.specs.Stock.{Stock, empty_stock}
 use Rattle.plain_heap.specs.declared.reply.Reply.{Reply}
 use Rattle.plain_heap.specs.State.{next_chunk}
 use Rattle.heap_ledger.specs.Ledger.{IsLedger, Ledger, run_setting, run_state}
-use Rattle.heap_books.specs.declared.turn.Turn.{Turn}
-use Rattle.heap_books.specs.declared.turn.Turn.TheVariants.{Behind, Made}
-use Rattle.heap_books.specs.FreeChunks.{ArePlacesOf, IsStockOf}
-use Rattle.heap_books.specs.Places.{cache_count, stock_at, with_stock}
-use Rattle.heap_books.specs.Placed.{IsPlaced}
-use Rattle.heap_books.proofs.HoldLemmas.{places_hold}
-use Rattle.heap_books.proofs.PlacedLemmas.{placed_grow}
+use Rattle.heap_accounts.specs.declared.turn.Turn.{Turn}
+use Rattle.heap_accounts.specs.declared.turn.Turn.TheVariants.{Behind, Made}
+use Rattle.heap_accounts.specs.FreeChunks.{ArePlacesOf, IsStockOf}
+use Rattle.heap_accounts.specs.Places.{cache_count, stock_at, with_stock}
+use Rattle.heap_accounts.specs.Placed.{IsPlaced}
+use Rattle.heap_accounts.proofs.HoldLemmas.{places_hold}
+use Rattle.heap_accounts.proofs.PlacedLemmas.{placed_grow}
 use Rattle.heap_core.specs.ChunkCalls.{GivesChunk, IsChunkDue, IsAskedOf, PerformsChunk}
 use Rattle.heap_core.specs.Heap.{IsHeap, run_places}
 use Rattle.heap_core.specs.Performs.{PerformsCall}

@@ -9,13 +9,13 @@ use Rattle.plain_heap.specs.State.{State, held_at}
 use Rattle.heap_ledger.specs.Ledger.{Ledger, after_commit, run_setting, run_state}
 use Rattle.heap_memory.specs.declared.chunk.Chunk.{Chunk}
 use Rattle.heap_slabs.specs.Chunks.{IsFreeChunk}
-use Rattle.heap_books.specs.declared.fresh.Fresh.{Fresh}
-use Rattle.heap_books.specs.FreeChunks.{IsFreeRound}
-use Rattle.heap_books.specs.Grows.{HasNoRunOf, IsLowestLeft}
-use Rattle.heap_books.specs.Kinds.{is_chunk_call}
-use Rattle.heap_books.specs.declared.last.Last.{Last}
-use Rattle.heap_books.specs.declared.last.Last.TheVariants as last
-use Rattle.heap_books.specs.Turns.{MakesGrownLast, MakesLeft, TakesLast, Waits}
+use Rattle.heap_accounts.specs.declared.fresh.Fresh.{Fresh}
+use Rattle.heap_accounts.specs.FreeChunks.{IsFreeRound}
+use Rattle.heap_accounts.specs.Grows.{HasNoRunOf, IsLowestLeft}
+use Rattle.heap_accounts.specs.Kinds.{is_chunk_call}
+use Rattle.heap_accounts.specs.declared.last.Last.{Last}
+use Rattle.heap_accounts.specs.declared.last.Last.TheVariants as last
+use Rattle.heap_accounts.specs.Turns.{MakesGrownLast, MakesLeft, TakesLast, Waits}
 use Rattle.heap_core.specs.ChunkCalls.{HasNothing, Refuses}
 use Rattle.heap_core.proofs.AskedLemmas.{asks_cache, cache_reply, call_is, not_behind}
 

@@ -9,6 +9,8 @@ pub mod GrownLemmas
 pub mod HeapLemmas
 pub mod LastLemmas
 pub mod NextLemmas
+pub mod ReadLemmas
 pub mod RoundLemmas
 pub mod ShelvesLemmas
+pub mod SnapshotLemmas
 pub mod StartLemmas

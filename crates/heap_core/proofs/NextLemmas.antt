@@ -7,15 +7,15 @@ use Rattle.plain_heap.specs.declared.reply.Reply.{Reply}
 use Rattle.plain_heap.specs.declared.reply.Reply.TheVariants as reply
 use Rattle.plain_heap.specs.State.{next_chunk}
 use Rattle.heap_ledger.specs.Ledger.{IsLedger, Ledger, after_commit, run_setting, run_state}
-use Rattle.heap_books.specs.Laws.{at_rest}
-use Rattle.heap_books.specs.Placed.{IsPlaced}
-use Rattle.heap_books.specs.Places.{Places, places_by_call, reaped}
-use Rattle.heap_books.specs.Kinds.{is_large, is_plain_call, is_reap_call}
-use Rattle.heap_books.specs.declared.turn.Turn.{Turn}
-use Rattle.heap_books.specs.declared.turn.Turn.TheVariants.{Behind, Made}
-use Rattle.heap_books.specs.Turns.{Makes, MakesReap, TakesReap, TakesTurn, due_of}
-use Rattle.heap_books.proofs.PlacedLemmas.{placed_grow}
-use Rattle.heap_books.proofs.PlacingLemmas.{answers_change, reaps_change}
+use Rattle.heap_accounts.specs.Laws.{at_rest}
+use Rattle.heap_accounts.specs.Placed.{IsPlaced}
+use Rattle.heap_accounts.specs.Places.{Places, places_by_call, reaped}
+use Rattle.heap_accounts.specs.Kinds.{is_large, is_plain_call, is_reap_call}
+use Rattle.heap_accounts.specs.declared.turn.Turn.{Turn}
+use Rattle.heap_accounts.specs.declared.turn.Turn.TheVariants.{Behind, Made}
+use Rattle.heap_accounts.specs.Turns.{Makes, MakesReap, TakesReap, TakesTurn, due_of}
+use Rattle.heap_accounts.proofs.PlacedLemmas.{placed_grow}
+use Rattle.heap_accounts.proofs.PlacingLemmas.{answers_change, reaps_change}
 use Rattle.heap_core.specs.Heap.{AreShelvesOf, IsHeap, run_places}
 use Rattle.heap_core.specs.Performs.{PerformsTurn, PerformsCall}
 use Rattle.heap_core.specs.Shelves.{KeepsHeap, reaped_shelf, stocks_of}

@@ -12,13 +12,13 @@ use Rattle.script.specs.Plan.{Call}
 use Rattle.heap_ledger.specs.Ledger.{Ledger, after_commit, run_setting, run_state}
 use Rattle.heap_memory.specs.declared.chunk.Chunk.{Chunk}
 use Rattle.heap_memory.specs.Laws.{chunk_of_slab}
-use Rattle.heap_books.specs.Allocs.{HasFreeNumber}
-use Rattle.heap_books.specs.FreeChunks.{IsFreeRound}
-use Rattle.heap_books.specs.Performed.{answer_at}
-use Rattle.heap_books.specs.Places.{address_of}
-use Rattle.heap_books.specs.Turns.{IsTaken, MakesWith, Waits}
-use Rattle.heap_books.specs.Kinds.{is_chunk_call}
-use Rattle.heap_books.proofs.HoldLemmas.{numbers_tell}
+use Rattle.heap_accounts.specs.Allocs.{HasFreeNumber}
+use Rattle.heap_accounts.specs.FreeChunks.{IsFreeRound}
+use Rattle.heap_accounts.specs.Performed.{answer_at}
+use Rattle.heap_accounts.specs.Places.{address_of}
+use Rattle.heap_accounts.specs.Turns.{IsTaken, MakesWith, Waits}
+use Rattle.heap_accounts.specs.Kinds.{is_chunk_call}
+use Rattle.heap_accounts.proofs.HoldLemmas.{numbers_tell}
 use Rattle.heap_core.specs.ChunkCalls.{CanHandRound, HandsRound}
 use Rattle.heap_core.proofs.AskedLemmas.{asks_cache, cache_reply, call_is, not_behind}
 

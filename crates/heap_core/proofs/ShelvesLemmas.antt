@@ -1,15 +1,15 @@
 -- The shelves of a heap as a list: one a cache, with the stock that the history leaves the cache.
-use Rattle.std.proofs.Common.{◌≡◌, ℕ, suc, ◌+◌, ◌%◌, ◌<◌, List, ◌++◌, drop, length, get_or, map, set, take, sym, ap, ◌∙◌, subst, arith}
+use Rattle.std.proofs.Common.{◌≡◌, ℕ, suc, ◌%◌, ◌<◌, List, ◌++◌, drop, length, get_or, map, set, take, sym, ap, ◌∙◌, subst, arith}
 use Rattle.std.proofs.lemmas.List.{get_or-map, get_or_default, length-map, map-set}
 use Rattle.shelf.specs.Shelf.{Shelf}
 use Rattle.shelf.specs.Steps.{put_on}
 use Rattle.shelf.specs.Stock.{Stock, empty_stock}
 use Rattle.shelf.proofs.Lists.{get_mapped, set_mapped}
 use Rattle.heap_ledger.specs.Ledger.{Ledger, run_setting, run_state}
-use Rattle.heap_books.specs.FreeChunks.{ArePlacesOf, IsStockOf}
-use Rattle.heap_books.specs.Laws.{IsDecided}
-use Rattle.heap_books.specs.Places.{Places, cache_count, stock_at, with_stock}
-use Rattle.heap_books.proofs.HoldLemmas.{places_hold}
+use Rattle.heap_accounts.specs.FreeChunks.{ArePlacesOf, IsStockOf}
+use Rattle.heap_accounts.specs.Laws.{IsDecided}
+use Rattle.heap_accounts.specs.Places.{Places, cache_count, stock_at, with_stock}
+use Rattle.heap_accounts.proofs.HoldLemmas.{places_hold}
 use Rattle.heap_core.specs.Heap.{AreShelvesOf, IsHeap, run_places}
 use Rattle.heap_core.specs.Shelves.{HasCpus, reaped_shelf, stocks_of, with_round_back}
 

@@ -17,7 +17,7 @@ use Rattle.plain_heap.specs.declared.entry.Entry.{Entry}
 use Rattle.plain_heap.specs.Setting.{Setting, cache_def_in, geometry_in}
 use Rattle.plain_heap.proofs.SettingLemmas.{cache_has_shape, def_of-class, def_of-declared}
 use Rattle.heap_ledger.specs.Ledger.{Ledger, run_setting}
-use Rattle.heap_books.specs.Places.{cache_count, places_of, start_places, stock_at}
+use Rattle.heap_accounts.specs.Places.{cache_count, places_of, start_places, stock_at}
 use Rattle.heap_core.specs.Heap.{IsHeap}
 use Rattle.heap_core.specs.Shelves.{AreFirstShelves, stocks_of}
 use Rattle.heap_core.proofs.NextLemmas.{IsKnown}

@@ -6,13 +6,13 @@ use Rattle.plain_heap.specs.declared.reply.Reply.{Reply}
 use Rattle.plain_heap.specs.declared.reply.Reply.TheVariants.{NoSpace}
 use Rattle.plain_heap.specs.Calls.{due_call}
 use Rattle.heap_ledger.specs.Ledger.{IsLedger, Ledger, after_commit, run_setting, run_state}
-use Rattle.heap_books.specs.declared.turn.Turn.{Turn}
-use Rattle.heap_books.specs.declared.turn.Turn.TheVariants.{Behind, Made}
-use Rattle.heap_books.specs.FreeChunks.{IsFreeRound, IsStockOf}
-use Rattle.heap_books.specs.Grows.{HasNoRunOf}
-use Rattle.heap_books.specs.Laws.{cache_asked}
-use Rattle.heap_books.specs.Performed.{IsHandedOut}
-use Rattle.heap_books.specs.Places.{cache_count, stock_at, with_stock}
+use Rattle.heap_accounts.specs.declared.turn.Turn.{Turn}
+use Rattle.heap_accounts.specs.declared.turn.Turn.TheVariants.{Behind, Made}
+use Rattle.heap_accounts.specs.FreeChunks.{IsFreeRound, IsStockOf}
+use Rattle.heap_accounts.specs.Grows.{HasNoRunOf}
+use Rattle.heap_accounts.specs.Laws.{cache_asked}
+use Rattle.heap_accounts.specs.Performed.{IsHandedOut}
+use Rattle.heap_accounts.specs.Places.{cache_count, stock_at, with_stock}
 use Rattle.heap_core.specs.Heap.{run_places}
 use Rattle.heap_core.specs.Performs.{PerformsCall}
 

@@ -1,4 +1,5 @@
 pub mod ChunkCalls
+pub mod FreePlaces
 pub mod Heap
 pub mod Performs
 pub mod Shelves

@@ -5,9 +5,9 @@ use Rattle.plain_heap.specs.declared.entry.Body.{Body}
 use Rattle.plain_heap.specs.declared.reply.Reply.{Reply}
 use Rattle.plain_heap.specs.Calls.{due_call}
 use Rattle.heap_ledger.specs.Ledger.{Ledger, after_commit, run_setting, run_state}
-use Rattle.heap_books.specs.declared.turn.Turn.{Turn}
-use Rattle.heap_books.specs.declared.turn.Turn.TheVariants.{Behind, Made}
-use Rattle.heap_books.specs.Performed.{IsPerformed}
+use Rattle.heap_accounts.specs.declared.turn.Turn.{Turn}
+use Rattle.heap_accounts.specs.declared.turn.Turn.TheVariants.{Behind, Made}
+use Rattle.heap_accounts.specs.Performed.{IsPerformed}
 use Rattle.heap_core.specs.Heap.{run_places}
 
 -- the call is not the thread's next one, and nothing was made

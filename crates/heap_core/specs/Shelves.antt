@@ -5,7 +5,7 @@ use Rattle.shelf.specs.Steps.{put_on}
 use Rattle.shelf.specs.Stock.{IsOut, Stock, empty_stock}
 use Rattle.plain_heap.specs.Setting.{Setting, geometry_in}
 use Rattle.heap_ledger.specs.Ledger.{Ledger}
-use Rattle.heap_books.specs.Places.{Places, reaped, stock_at, with_stock}
+use Rattle.heap_accounts.specs.Places.{Places, reaped, stock_at, with_stock}
 use Rattle.heap_core.specs.Heap.{IsHeap}
 
 -- the stocks of some shelves, by the number of the cache

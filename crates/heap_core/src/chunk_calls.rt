@@ -1,14 +1,15 @@
 ghost use Rattle.std.specs.Prelude.{◌≡◌, None, IfOk, OnErr};
 ghost use Rattle.heap_ledger.specs.Ledger.{run_setting};
 ghost use Rattle.shelf.specs.Steps.{taken_from};
-ghost use Rattle.heap_books.specs.Places.{cpu_of};
-ghost use Rattle.heap_books.specs.Turns.{HasNoRunFor};
+ghost use Rattle.heap_accounts.specs.Places.{cpu_of};
+ghost use Rattle.heap_accounts.specs.Turns.{HasNoRunFor};
 ghost use Rattle.heap_core.specs.ChunkCalls.{CanHandRound, GivesChunk, GivesNothing, GivesRound, HasNothing, IsChunkDue, IsAskedOf};
 ghost use Rattle.heap_core.specs.Heap.{IsHeap};
 ghost use Rattle.heap_core.specs.Performs.{PerformsTurn};
 
 use crate::shelves::cpu_of;
-use heap_books::{Books, Fresh, Grown, Last, Tried, Turn};
+use heap_accounts::{Fresh, Grown, Last, Tried, Turn};
+use heap_books::Books;
 use shelf::Shelf;
 use slab_layer::Round;
 use std::alloc::Global;

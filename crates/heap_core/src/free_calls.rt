@@ -1,11 +1,12 @@
 ghost use Rattle.std.specs.Prelude.{IsSome};
-ghost use Rattle.heap_books.specs.Kinds.{is_free};
-ghost use Rattle.heap_books.specs.Turns.{due_of};
+ghost use Rattle.heap_accounts.specs.Kinds.{is_free};
+ghost use Rattle.heap_accounts.specs.Turns.{due_of};
 ghost use Rattle.heap_core.specs.Heap.{IsHeap};
 ghost use Rattle.heap_core.specs.Performs.{PerformsTurn};
 
 use crate::shelves::put_back;
-use heap_books::{Books, Freed, Turn};
+use heap_accounts::{Freed, Turn};
+use heap_books::Books;
 use shelf::Shelf;
 
 /// Performs a free: the round of a chunk that was given back goes on the shelf of its cache. It takes no memory.

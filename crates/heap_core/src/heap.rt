@@ -1,18 +1,24 @@
 ghost use Rattle.std.specs.Prelude.{◌≡◌, ◌↔◌, [], IfOk, OnErr, OnOk, IsTrue};
 ghost use Rattle.script.specs.Plan.{plan_of};
 ghost use Rattle.script.specs.Rules.{IsPlan};
+ghost use Rattle.umem_options.specs.Limits.{IsLogging, IsOptions};
 ghost use Rattle.plain_heap.specs.Calls.{IsFinished};
 ghost use Rattle.heap_ledger.specs.Ledger.{IsLedger, run_setting};
-ghost use Rattle.heap_books.specs.Finish.{GoesOn};
-ghost use Rattle.heap_books.specs.Placed.{IsPlaced};
+ghost use Rattle.heap_accounts.specs.Finish.{GoesOn};
+ghost use Rattle.heap_accounts.specs.Placed.{IsPlaced};
+ghost use Rattle.heap_pictures.specs.Pictures.{Pictures, TellsPlaces};
+ghost use Rattle.heap_core.specs.Heap.{run_places};
 ghost use Rattle.heap_core.specs.Performs.{PerformsTurn};
 
 use crate::chunk_calls::perform_chunk;
 use crate::free_calls::perform_free;
+use crate::free_places::free_places;
 use crate::plain_calls::{perform_large, perform_plain};
 use crate::reap_calls::perform_reap;
 use crate::shelves::start_shelves;
-use heap_books::{Asked, Books, Turn};
+use core_format::Core;
+use heap_accounts::{Asked, Turn};
+use heap_books::Books;
 use plain_heap::History;
 use script::Script;
 use shelf::Shelf;
@@ -49,7 +55,9 @@ impl Heap {
         options: &Options,
         logging: &Logging,
     ) -> Result<Heap, NoMemory>
-        requires { IsPlan (plan_of script.now) }
+        requires plan { IsPlan (plan_of script.now) }
+        requires options { IsOptions options.now }
+        requires logging { IsLogging logging.now }
         ensures { IfOk result (λ heap. heap ≡ record {
           plan = plan_of script.now;
           options = options.now;
@@ -107,6 +115,19 @@ impl Heap {
             self.perform(alloc, due.thread, due.call)?;
         }
         Ok(())
+    }
+
+    /// The core of the run as it stands: what it was given, what its entries leave, their audits and logs, and each
+    /// free chunk in the magazine, the depot or the slab that holds it. It refuses for want of memory alone.
+    pub fn snapshot(&self, alloc: Global) -> Result<Core, NoMemory>
+        ensures pictures { IfOk result (Pictures self.now) }
+        ensures places { IfOk result (TellsPlaces self.now (run_places self.now)) }
+    {
+        // Says that options and sizes are within their limits.
+        let _ = self.books.history();
+        let cpus = self.books.header().cpus;
+        let places = free_places(alloc, cpus, &self.shelves, self.books.slabs())?;
+        self.books.draw(alloc, places)
     }
 
     /// The entries.

@@ -4,6 +4,7 @@
 mod alone;
 mod chunk_calls;
 mod free_calls;
+mod free_places;
 mod heap;
 mod plain_calls;
 mod reap_calls;

@@ -1,10 +1,11 @@
 ghost use Rattle.std.specs.Prelude.{◌≡◌, IfOk, IsSome, OnErr};
-ghost use Rattle.heap_books.specs.Kinds.{is_large, is_plain_call};
-ghost use Rattle.heap_books.specs.Turns.{due_of};
+ghost use Rattle.heap_accounts.specs.Kinds.{is_large, is_plain_call};
+ghost use Rattle.heap_accounts.specs.Turns.{due_of};
 ghost use Rattle.heap_core.specs.Performs.{PerformsTurn};
 ghost use Rattle.heap_core.specs.Shelves.{KeepsHeap};
 
-use heap_books::{Books, Turn};
+use heap_accounts::Turn;
+use heap_books::Books;
 use umem_base::NoMemory;
 
 /// Performs a call that hands nothing out and gives nothing back; no shelf changes. It takes no memory.

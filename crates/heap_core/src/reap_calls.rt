@@ -1,11 +1,12 @@
 ghost use Rattle.std.specs.Prelude.{IsSome};
-ghost use Rattle.heap_books.specs.Kinds.{is_reap_call};
-ghost use Rattle.heap_books.specs.Turns.{due_of};
+ghost use Rattle.heap_accounts.specs.Kinds.{is_reap_call};
+ghost use Rattle.heap_accounts.specs.Turns.{due_of};
 ghost use Rattle.heap_core.specs.Heap.{IsHeap};
 ghost use Rattle.heap_core.specs.Performs.{PerformsTurn};
 
 use crate::shelves::reap_shelves;
-use heap_books::{Books, Turn};
+use heap_accounts::Turn;
+use heap_books::Books;
 use shelf::Shelf;
 
 /// Performs a reap: the slabs of which no chunk lives are given back, and leave their shelves. It takes no memory.

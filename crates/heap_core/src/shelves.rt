@@ -3,7 +3,7 @@ ghost use Rattle.case_table.specs.declared.limits.TheConstants.{CLASS_COUNT};
 ghost use Rattle.case_table.specs.Geometry.{IsCacheShape, geometry_of};
 ghost use Rattle.script.specs.Rules.{IsHeader};
 ghost use Rattle.shelf.specs.Stock.{empty_stock};
-ghost use Rattle.heap_books.specs.Places.{start_places};
+ghost use Rattle.heap_accounts.specs.Places.{start_places};
 ghost use Rattle.heap_core.specs.Shelves.{AreFirstShelves, CanPut, HasCpus, reaped_shelf, stocks_of, with_round_back};
 
 use case_table::{CLASS_ALIGN, CLASS_COUNT, class_size, geometry};

@@ -6,8 +6,8 @@ use Rattle.shelf.specs.Shelf.{Shelf}
 use Rattle.shelf.specs.Steps.{taken_from, with_slab_of}
 use Rattle.shelf.specs.Stock.{Stock}
 use Rattle.heap_ledger.specs.Ledger.{run_setting, run_state}
-use Rattle.heap_books.specs.Grows.{IsFresh}
-use Rattle.heap_books.specs.Turns.{MakesGrown, TakesGrow}
+use Rattle.heap_accounts.specs.Grows.{IsFresh}
+use Rattle.heap_accounts.specs.Turns.{MakesGrown, TakesGrow}
 use Rattle.heap_core.proofs.GrownLemmas.{fresh_is, lists_empty, performs_grown, rounds_few, rounds_rise, rounds_some, slab_apart}
 use Rattle.heap_core.proofs.chunk_calls.grow_on.Goals as goal
 

@@ -1,5 +1,5 @@
-use Rattle.heap_books.specs.Turns.{TakesRound}
-use Rattle.heap_books.specs.declared.tried.Tried.{Tried}
+use Rattle.heap_accounts.specs.Turns.{TakesRound}
+use Rattle.heap_accounts.specs.declared.tried.Tried.{Tried}
 use Rattle.std.proofs.Common.{subst, inl, inr}
 use Rattle.heap_core.proofs.RoundLemmas.{hands, not_taken, not_waiting}
 use Rattle.heap_core.proofs.chunk_calls.hand.Goals as goal

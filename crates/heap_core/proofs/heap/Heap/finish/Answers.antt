@@ -1,6 +1,6 @@
 use Rattle.std.proofs.Common.{subst}
 use Rattle.heap_ledger.specs.Ledger.{IsLedger, Ledger}
-use Rattle.heap_books.specs.Finish.{IsNextDue}
+use Rattle.heap_accounts.specs.Finish.{IsNextDue}
 use Rattle.heap_core.proofs.FinishLemmas.{goes_further, less_left}
 use Rattle.heap_core.proofs.heap.Heap.finish.Goals as goal
 

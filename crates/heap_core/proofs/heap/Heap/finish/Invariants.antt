@@ -1,5 +1,5 @@
-use Rattle.heap_books.specs.Finish.{GoesOn}
-use Rattle.heap_books.proofs.FinishLemmas.{calls_left}
+use Rattle.heap_accounts.specs.Finish.{GoesOn}
+use Rattle.heap_accounts.proofs.FinishLemmas.{calls_left}
 use Rattle.heap_core.proofs.heap.Heap.finish.Given as goal
 
 abbrev pub invariant-loop-due : goal.invariant-loop-due

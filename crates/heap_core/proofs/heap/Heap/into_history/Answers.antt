@@ -1,6 +1,6 @@
 use Rattle.std.proofs.Common.{subst}
 use Rattle.heap_ledger.specs.Ledger.{Ledger, run_setting}
-use Rattle.heap_books.specs.Placed.{IsPlaced}
+use Rattle.heap_accounts.specs.Placed.{IsPlaced}
 use Rattle.heap_core.proofs.heap.Heap.into_history.Goals as goal
 
 pub returns-clause-placed : goal.returns-clause-placed
