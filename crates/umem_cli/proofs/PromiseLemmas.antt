@@ -1,13 +1,12 @@
 -- What a call gives out is whole where nothing failed.
-use Rattle.std.proofs.Common.{◌≡◌, ◌⊎◌, inl, inr, ℕ, ◌<◌, ◌≤◌, Bool, true, false, List, [], ◌∷◌, length, Option, Some, None, refl, sym, ap, subst, ◌∙◌, arith, nat_lt}
-use Rattle.std.specs.Prelude.{Ok, Err, is_some}
+use Rattle.std.proofs.Common.{◌≡◌, ◌⊎◌, inl, inr, ℕ, ◌≤◌, Bool, true, false, List, [], ◌∷◌, length, Option, Some, None, refl, sym, ap, subst, ◌∙◌, arith, nat_lt}
+use Rattle.std.specs.Prelude.{Ok}
 use Rattle.std.specs.List.{list_any}
 use Rattle.std.proofs.lemmas.Bool.Decides.{nat_tests}
 use Rattle.umem_base.specs.Faults.{Rose}
 use Rattle.umem_base.specs.Folder.{Files, bytes_of, MayLack}
 use Rattle.umem_base.specs.Lines.{lines_of}
 use Rattle.umem_base.specs.Transfer.{Are, Exceed}
-use Rattle.core_format.specs.declared.whole.Core.{Core}
 use Rattle.core_format.specs.Cores.{core_of}
 use Rattle.umem_options.specs.declared.options.Options.{Options}
 use Rattle.umem_options.specs.Flags.{has_guards}
@@ -17,44 +16,67 @@ use Rattle.umem_cli.specs.declared.refusal.Refusal.{Refusal}
 use Rattle.umem_cli.specs.declared.refusal.Refusal.TheVariants as refusal
 use Rattle.umem_cli.specs.declared.status.Status.{Status}
 use Rattle.umem_cli.specs.declared.status.Status.TheVariants.{Done, NoMemory, Refused, Usage}
-use Rattle.umem_words.specs.declared.job.Job.{Job}
+use Rattle.umem_cli.specs.declared.job.Job.{Job}
+use Rattle.umem_words.specs.declared.job.Job.{Job as Asked}
 use Rattle.umem_words.specs.declared.job.Job.TheVariants.{Make, Mdb, Run}
 use Rattle.umem_words.specs.declared.make_job.MakeJob.{MakeJob}
 use Rattle.umem_words.specs.declared.mdb_job.MdbJob.{MdbJob}
 use Rattle.umem_words.specs.declared.run_job.RunJob.{RunJob}
 use Rattle.umem_words.specs.Jobs.{job_of}
-use Rattle.umem_cli.specs.Asked.{Task, mdb, none, run, run_served, served, task_of}
-use Rattle.umem_cli.specs.Pieces.{DeliversPiece, Ends, FailsAt, GivesOut, Piece, Wanted, for_err, for_out, refused}
+use Rattle.umem_cli.specs.Asked.{Task, make, mdb, none, run, job_to_run, served, task_of}
+use Rattle.umem_cli.specs.Pieces.{DeliversPiece, Ends, FailsAt, FailsPiece, GivesOut, Piece, Wanted, for_err, for_file, for_out, nothing, refused}
+use Rattle.umem_cli.specs.Made.{WantsMade}
 use Rattle.umem_cli.specs.Messages.{usage_text}
-use Rattle.umem_cli.specs.Outcomes.{SaysUsage}
-use Rattle.umem_cli.specs.Promise.{GivenOut, IsCoreThere, IsScriptThere, IsStatusOf, IsWanted, IsWholeOf, commands_status, nothing, usage}
+use Rattle.umem_cli.specs.Outcomes.{GivesMade, SaysUsage}
+use Rattle.umem_cli.specs.Promise.{GivenOut, IsCoreThere, IsScriptThere, IsStatusOf, IsWanted, IsWholeOf, commands_status, usage}
 use Rattle.umem_cli.specs.Refusal.{status_of}
 use Rattle.umem_cli.specs.Sessions.{IsCommandsCause, IsCoreCause, WantsMdb, answered, is_refused}
-use Rattle.umem_cli.specs.Streams.{Streams}
-use Rattle.umem_cli.specs.Transcripts.{GivenByRun, IsRunCause, IsTranscript, WantsRun}
-use Rattle.umem_cli.specs.World.{HasNoFault, KeepsInput, World}
-use Rattle.umem_cli.proofs.EndsLemmas.{no_line, says_err}
+use Rattle.umem_cli.specs.Streams.{Outputs}
+use Rattle.umem_cli.specs.Transcripts.{GivenByRun, IsPrintedIn, IsRunCause, WantsRun, printed}
+use Rattle.umem_cli.specs.World.{HasNoFault, KeepsInput, World, outputs_of}
+use Rattle.umem_cli.proofs.EndsLemmas.{no_line, says_err, says_out}
+use Rattle.umem_cli.proofs.LineLemmas.{same_outputs}
 
 -- ---- a write that failed has raised a count
 
-counts_kept : (before after : Streams) (piece : Piece) → DeliversPiece before after piece → (after.out.faults ≡ before.out.faults) × (after.err.faults ≡ before.err.faults)
-counts_kept before after (for_out bytes) done = (done.0.1, ap (λ s. s.faults) done.1)
-counts_kept before after (for_err bytes) done = (ap (λ s. s.faults) done.0, done.1.1)
+-- the three counts that pieces may raise
+abbrev pub KeepsCounts : Outputs → Outputs → Type 0
+KeepsCounts before after =
+    (after.out.faults ≡ before.out.faults) × (after.err.faults ≡ before.err.faults) × (after.store.faults ≡ before.store.faults)
 
-no_failure : (before after : Streams) (pieces : List Piece) → (Rose before.out.faults after.out.faults → ⊥) → (Rose before.err.faults after.err.faults → ⊥) → FailsAt before after pieces → ⊥
-no_failure before after [] out err fails = fails
-no_failure before after (for_out bytes ∷ pieces) out err (inl failed) = out failed.0.3
-no_failure before after (for_err bytes ∷ pieces) out err (inl failed) = err failed.1.3
-no_failure before after (for_out bytes ∷ pieces) out err (inr later) =
-    let kept = counts_kept before later.0 (for_out bytes) later.1 in
-    no_failure later.0 after pieces (subst (λ (n : ℕ). Rose n after.out.faults → ⊥) (sym kept.0) out) (subst (λ (n : ℕ). Rose n after.err.faults → ⊥) (sym kept.1) err) later.2
-no_failure before after (for_err bytes ∷ pieces) out err (inr later) =
-    let kept = counts_kept before later.0 (for_err bytes) later.1 in
-    no_failure later.0 after pieces (subst (λ (n : ℕ). Rose n after.out.faults → ⊥) (sym kept.0) out) (subst (λ (n : ℕ). Rose n after.err.faults → ⊥) (sym kept.1) err) later.2
+-- none of them rose
+pub record IsCalm (before after : Outputs) : Type 0 where
+  pub out : Rose before.out.faults after.out.faults → ⊥
+  pub err : Rose before.err.faults after.err.faults → ⊥
+  pub store : Rose before.store.faults after.store.faults → ⊥
 
-ended_so : (before after : World) (wanted : Wanted) (status : Status) → HasNoFault before after → Ends before.streams after.streams wanted status → status ≡ wanted.status
+counts_kept : (before after : Outputs) (piece : Piece) → DeliversPiece before after piece → KeepsCounts before after
+counts_kept before after (for_out bytes) done = (done.0.1, ap (λ s. s.faults) done.1, ap (λ s. s.faults) done.2)
+counts_kept before after (for_err bytes) done = (ap (λ s. s.faults) done.0, done.1.1, ap (λ s. s.faults) done.2)
+counts_kept before after (for_file name bytes) done = (ap (λ s. s.faults) done.0, ap (λ s. s.faults) done.1, done.2.1)
+
+calm_behind : (before between after : Outputs) → KeepsCounts before between → IsCalm before after → IsCalm between after
+calm_behind before between after kept calm = record {
+  out = subst (λ (n : ℕ). Rose n after.out.faults → ⊥) (sym kept.0) calm.out;
+  err = subst (λ (n : ℕ). Rose n after.err.faults → ⊥) (sym kept.1) calm.err;
+  store = subst (λ (n : ℕ). Rose n after.store.faults → ⊥) (sym kept.2) calm.store;
+}
+
+piece_fails_not : (before after : Outputs) (piece : Piece) → IsCalm before after → FailsPiece before after piece → ⊥
+piece_fails_not before after (for_out bytes) calm failed = calm.out failed.0.3
+piece_fails_not before after (for_err bytes) calm failed = calm.err failed.1.3
+piece_fails_not before after (for_file name bytes) calm failed = calm.store failed.2.1
+
+no_failure : (before after : Outputs) (pieces : List Piece) → IsCalm before after → FailsAt before after pieces → ⊥
+no_failure before after [] calm fails = fails
+no_failure before after (piece ∷ pieces) calm (inl failed) = piece_fails_not before after piece calm failed
+no_failure before after (piece ∷ pieces) calm (inr later) =
+    no_failure later.0 after pieces (calm_behind before later.0 after (counts_kept before later.0 piece later.1) calm) later.2
+
+ended_so : (before after : World) (wanted : Wanted) (status : Status) → HasNoFault before after → Ends (outputs_of before) (outputs_of after) wanted status → status ≡ wanted.status
 ended_so before after wanted status calm (inl done) = done.0
-ended_so before after wanted status calm (inr failed) = absurd (no_failure before.streams after.streams wanted.pieces calm.out calm.err failed.1)
+ended_so before after wanted status calm (inr failed) =
+    absurd (no_failure (outputs_of before) (outputs_of after) wanted.pieces (record { out = calm.out; err = calm.err; store = calm.writes }) failed.1)
 
 -- ---- files that are told
 
@@ -86,10 +108,10 @@ run_cause name before after refusal.CommandsFault there calm cause = absurd caus
 run_cause name before after refusal.CommandsTooLong there calm cause = absurd cause
 run_cause name before after refusal.NoMemory there calm cause = refl
 
-run_status : (guards : Bool) (name : List ℕ) (before after : World) (wanted : Wanted) → IsScriptThere name before → HasNoFault before after → WantsRun guards name before after wanted → (wanted.status ≡ Done) ⊎ (wanted.status ≡ NoMemory)
-run_status guards name before after wanted there calm (inl text) = inl (ap (λ w. w.status) text.wants)
-run_status guards name before after wanted there calm (inr refusal) =
-    inr (ap (λ w. w.status) refusal.wants ∙ run_cause name before after.read_faults refusal.why there calm.reads refusal.cause)
+run_status : (job : Job) (before after : World) (wanted : Wanted) → IsScriptThere job.file before → HasNoFault before after → WantsRun job before after wanted → (wanted.status ≡ Done) ⊎ (wanted.status ≡ NoMemory)
+run_status job before after wanted there calm (inl text) = inl (ap (λ w. w.status) text.wants)
+run_status job before after wanted there calm (inr refusal) =
+    inr (ap (λ w. w.status) refusal.wants ∙ run_cause job.file before after.read_faults refusal.why there calm.reads refusal.cause)
 
 -- ---- commands over a core
 
@@ -142,11 +164,17 @@ mdb_status name before after wanted there calm (inr (inr session)) =
 
 -- ---- what is asked
 
-pub whole_given : (task : Task) (before after : World) (status : Status) → GivesOut (IsWanted task before after) before.streams after.streams status → IsWholeOf task before after status
-whole_given (run name options) before after status given = λ there calm.
-    subst (λ (s : Status). (s ≡ Done) ⊎ (s ≡ NoMemory)) (sym (ended_so before after given.0 status calm given.2)) (run_status (has_guards options) name before after given.0 there calm given.1.1)
+pub whole_given : (task : Task) (before after : World) (status : Status) → GivesOut (IsWanted task before after) (outputs_of before) (outputs_of after) status → IsWholeOf task before after status
+whole_given (run job) before after status given = λ there calm.
+    subst (λ (s : Status). (s ≡ Done) ⊎ (s ≡ NoMemory)) (sym (ended_so before after given.0 status calm given.2)) (run_status job before after given.0 there calm given.1.1)
 whole_given (mdb name) before after status given = λ there calm.
     subst (λ (s : Status). IsStatusOf before.input s ⊎ (s ≡ NoMemory)) (sym (ended_so before after given.0 status calm given.2)) (mdb_status name before after given.0 there calm given.1)
+whole_given (make seed ops options) before after status given = λ calm.
+    subst (λ (s : Status). (s ≡ Done) ⊎ (s ≡ NoMemory)) (sym (ended_so before after given.0 status calm given.2)) (made_status given.0 given.1.1.1)
+  where
+    made_status : (wanted : Wanted) → WantsMade (has_guards options) seed ops wanted ⊎ (wanted ≡ nothing) → (wanted.status ≡ Done) ⊎ (wanted.status ≡ NoMemory)
+    made_status wanted (inl made) = inl (ap (λ w. w.status) made.wants)
+    made_status wanted (inr is) = inr (ap (λ w. w.status) is)
 whole_given none before after status given = λ calm.
     subst (λ (s : Status). (s ≡ Usage) ⊎ (s ≡ NoMemory)) (sym (ended_so before after given.0 status calm given.2)) (usage_status given.0 given.1.1.1)
   where
@@ -157,73 +185,73 @@ whole_given none before after status given = λ calm.
 -- ---- what is given where nothing is done
 
 -- where memory is short for the words, nothing is written and nothing read
-pub short_given : (task : Task) (before : World) → GivesOut (IsWanted task before before) before.streams before.streams NoMemory
-short_given (run name options) before =
-    (refused name refusal.NoMemory, ((refl, refl), inr (record { why = refusal.NoMemory; cause = refl; wants = refl })), no_line before.streams name)
+pub short_given : (task : Task) (before : World) → GivesOut (IsWanted task before before) (outputs_of before) (outputs_of before) NoMemory
+short_given (run job) before =
+    (refused job.file refusal.NoMemory, ((refl, refl), inr (record { why = refusal.NoMemory; cause = refl; wants = refl })), no_line (outputs_of before) job.file)
 short_given (mdb name) before =
-    (refused name refusal.NoMemory, inl (record { why = refusal.NoMemory; cause = refl; input = (refl, refl); wants = refl }), no_line before.streams name)
+    (refused name refusal.NoMemory, inl (record { why = refusal.NoMemory; cause = refl; input = (refl, refl); wants = refl }), no_line (outputs_of before) name)
+short_given (make seed ops options) before = (nothing, ((refl, refl), (refl, inr refl)), inl (refl, refl))
 short_given none before = (nothing, ((refl, refl), (refl, inr refl)), inl (refl, refl))
 
+-- the folder is as it was
+abbrev pub SameStore : World → World → Type 0
+SameStore before after = (outputs_of after).store ≡ (outputs_of before).store
+
 -- words that ask for nothing that there is get the usage lines
-pub usage_given : (before after : World) (status : Status) → KeepsInput before after → after.read_faults ≡ before.read_faults → after.streams.out ≡ before.streams.out
-    → SaysUsage before.streams.err after.streams.err status → GivesOut (IsWanted none before after) before.streams after.streams status
-usage_given before after status input reads out says =
-    (usage, (input, (reads, inl refl)), says_err before.streams after.streams usage_text Usage status says out)
+pub usage_given : (before after : World) (status : Status) → KeepsInput before after → after.read_faults ≡ before.read_faults → after.streams.out ≡ before.streams.out → SameStore before after
+    → SaysUsage before.streams.err after.streams.err status → GivesOut (IsWanted none before after) (outputs_of before) (outputs_of after) status
+usage_given before after status input reads out store says =
+    (usage, (input, (reads, inl refl)), says_err (outputs_of before) (outputs_of after) usage_text Usage status says out store)
+
+-- a drawn script reads nothing and tells nothing on the error stream
+pub make_given : (seed ops : ℕ) (options : Options) (before after : World) (status : Status) → KeepsInput before after → after.read_faults ≡ before.read_faults → after.streams.err ≡ before.streams.err → SameStore before after
+    → GivesMade (has_guards options) seed ops before.streams.out after.streams.out status → GivesOut (IsWanted (make seed ops options) before after) (outputs_of before) (outputs_of after) status
+make_given seed ops options before after status input reads err store (inl made) =
+    (printed made.0, (input, (reads, inl (record { text = made.0; is = made.1; wants = refl }))), says_out (outputs_of before) (outputs_of after) made.0 Done status made.2 err store)
+make_given seed ops options before after status input reads err store (inr short) =
+    (nothing, (input, (reads, inr refl)), inl (short.0, same_outputs (outputs_of before) (outputs_of after) short.1 err store))
 
 -- ---- by the job that was read
 
-module _ (words : List (List ℕ)) (asked : Option Job) (told : asked ≡ job_of words) where
+module _ (words : List (List ℕ)) (asked : Option Asked) (told : asked ≡ job_of words) where
   -- no job
   pub none_read : asked ≡ None → task_of words ≡ none
   none_read is = ap served (sym told ∙ is)
 
-  module _ (job : Job) (is : asked ≡ Some job) where
+  module _ (job : Asked) (is : asked ≡ Some job) where
     task_read : task_of words ≡ served (Some job)
     task_read = ap served (sym told ∙ is)
 
-    -- a run that leaves a core
-    pub core_read : (its : RunJob) → job ≡ Run its → is_some its.core ≡ true → task_of words ≡ none
-    core_read its run_is some = task_read ∙ ap (λ (j : Job). served (Some j)) run_is ∙ by_core its.core some
-      where
-        by_core : (core : Option (List ℕ)) → is_some core ≡ true → run_served its core ≡ none
-        by_core None e = absurd (cc e)
-        by_core (Some core) e = refl
-
-    -- a run that leaves none
-    pub run_read : (its : RunJob) → job ≡ Run its → is_some its.core ≡ false → task_of words ≡ run its.script its.options
-    run_read its run_is none_left = task_read ∙ ap (λ (j : Job). served (Some j)) run_is ∙ by_core its.core none_left
-      where
-        by_core : (core : Option (List ℕ)) → is_some core ≡ false → run_served its core ≡ run its.script its.options
-        by_core None e = refl
-        by_core (Some core) e = absurd (cc e)
+    pub run_read : (its : RunJob) → job ≡ Run its → task_of words ≡ run (job_to_run its)
+    run_read its is_run = task_read ∙ ap (λ (j : Asked). served (Some j)) is_run
 
     pub mdb_read : (its : MdbJob) → job ≡ Mdb its → task_of words ≡ mdb its.core
-    mdb_read its is_mdb = task_read ∙ ap (λ (j : Job). served (Some j)) is_mdb
+    mdb_read its is_mdb = task_read ∙ ap (λ (j : Asked). served (Some j)) is_mdb
 
-    pub make_read : (its : MakeJob) → job ≡ Make its → task_of words ≡ none
-    make_read its is_make = task_read ∙ ap (λ (j : Job). served (Some j)) is_make
+    pub make_read : (its : MakeJob) → job ≡ Make its → task_of words ≡ make its.seed its.ops its.options
+    make_read its is_make = task_read ∙ ap (λ (j : Asked). served (Some j)) is_make
 
 -- what is given for what the words ask for
-pub given_for : (words : List (List ℕ)) (task : Task) (before after : World) (status : Status) → task_of words ≡ task → GivesOut (IsWanted task before after) before.streams after.streams status → GivenOut words before after status
-given_for words task before after status is given = subst (λ (t : Task). GivesOut (IsWanted t before after) before.streams after.streams status) (sym is) given
+pub given_for : (words : List (List ℕ)) (task : Task) (before after : World) (status : Status) → task_of words ≡ task → GivesOut (IsWanted task before after) (outputs_of before) (outputs_of after) status → GivenOut words before after status
+given_for words task before after status is given = subst (λ (t : Task). GivesOut (IsWanted t before after) (outputs_of before) (outputs_of after) status) (sym is) given
 
 -- a run reads nothing of the input
-pub run_given : (name : List ℕ) (options : Options) (before after : World) (b a : World) (status : Status) → b.files ≡ before.files → b.read_faults ≡ before.read_faults → a.read_faults ≡ after.read_faults
-    → b.streams ≡ before.streams → a.streams ≡ after.streams → KeepsInput before after → GivenByRun (has_guards options) name b a status → GivesOut (IsWanted (run name options) before after) before.streams after.streams status
-run_given name options before after b a status files reads reads_after streams streams_after input given =
-    (given.0, (input, moved given.0 given.1), subst (λ (s : Streams). Ends before.streams s given.0 status) streams_after (subst (λ (s : Streams). Ends s a.streams given.0 status) streams given.2))
+pub run_given : (job : Job) (before after b a : World) (status : Status) → b.files ≡ before.files → b.read_faults ≡ before.read_faults → a.read_faults ≡ after.read_faults
+    → outputs_of b ≡ outputs_of before → outputs_of a ≡ outputs_of after → KeepsInput before after → GivenByRun job b a status → GivesOut (IsWanted (run job) before after) (outputs_of before) (outputs_of after) status
+run_given job before after b a status files reads reads_after all all_after input given =
+    (given.0, (input, moved given.0 given.1), subst (λ (s : Outputs). Ends (outputs_of before) s given.0 status) all_after (subst (λ (s : Outputs). Ends s (outputs_of a) given.0 status) all given.2))
   where
-    moved : (wanted : Wanted) → WantsRun (has_guards options) name b a wanted → WantsRun (has_guards options) name before after wanted
+    moved : (wanted : Wanted) → WantsRun job b a wanted → WantsRun job before after wanted
     moved wanted (inl made) = inl (record {
-      text = made.text;
-      is = subst (λ (f : Files). IsTranscript (has_guards options) f name made.text) files made.is;
+      its = made.its;
+      is = subst (λ (f : Files). IsPrintedIn job f made.its) files made.is;
       reads = sym reads_after ∙ made.reads ∙ reads;
       wants = made.wants;
     })
     moved wanted (inr refusal) = inr (record {
       why = refusal.why;
       cause =
-          subst (λ (n : ℕ). IsRunCause before.files name before.read_faults n refusal.why) reads_after
-          (subst (λ (n : ℕ). IsRunCause before.files name n a.read_faults refusal.why) reads (subst (λ (f : Files). IsRunCause f name b.read_faults a.read_faults refusal.why) files refusal.cause));
+          subst (λ (n : ℕ). IsRunCause before.files job.file before.read_faults n refusal.why) reads_after
+          (subst (λ (n : ℕ). IsRunCause before.files job.file n a.read_faults refusal.why) reads (subst (λ (f : Files). IsRunCause f job.file b.read_faults a.read_faults refusal.why) files refusal.cause));
       wants = refusal.wants;
     })

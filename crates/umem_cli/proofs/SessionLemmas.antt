@@ -1,18 +1,21 @@
 -- Lines of commands, one behind the other.
-use Rattle.std.proofs.Common.{◌≡◌, inl, inr, ℕ, zero, suc, ◌+◌, Bool, true, false, List, [], ◌∷◌, ◌++◌, length, refl, sym, ap, subst, ◌∙◌, arith}
-use Rattle.std.specs.Prelude.{◌||◌, Ok, Err}
+use Rattle.std.proofs.Common.{◌≡◌, inl, inr, ℕ, suc, ◌+◌, Bool, true, false, List, [], ◌∷◌, ◌++◌, length, refl, sym, ap, subst, ◌∙◌, arith}
+use Rattle.std.specs.Prelude.{◌||◌, Result, Ok, Err}
 use Rattle.std.specs.List.{list_any}
 use Rattle.std.proofs.lemmas.List.{append-nil, append_assoc, length_push}
 use Rattle.std.proofs.lemmas.List.Folds.{list_any-append}
-use Rattle.umem_base.specs.Lines.{lines_of}
+use Rattle.umem_base.specs.Lines.{lines_of, words_of}
 use Rattle.core_format.specs.declared.whole.Core.{Core}
+use Rattle.dcmd.specs.declared.dcmd.Dcmd.{Dcmd}
+use Rattle.dcmd.specs.declared.fault.DcmdFault.{DcmdFault}
+use Rattle.dcmd.specs.Commands.{command_of}
 use Rattle.umem_cli.specs.declared.status.Status.{Status}
 use Rattle.umem_cli.specs.declared.status.Status.TheVariants.{NoMemory}
 use Rattle.umem_cli.specs.Outcomes.{EndsLine}
-use Rattle.umem_cli.specs.Pieces.{Delivers, GivesOut, Piece}
-use Rattle.umem_cli.specs.Sessions.{AnswersLine, AnswersLines, IsAnswered, answered, is_refused}
-use Rattle.umem_cli.specs.Streams.{Streams}
-use Rattle.umem_cli.proofs.EndsLemmas.{delivers_more, fails_behind}
+use Rattle.umem_cli.specs.Pieces.{Delivers, GivesOut, Piece, Wanted, for_err, for_file, for_out}
+use Rattle.umem_cli.specs.Sessions.{AnswersCommand, AnswersLine, AnswersLines, AnswersWords, IsAnswered, answered, is_refused}
+use Rattle.umem_cli.specs.Streams.{Outputs}
+use Rattle.umem_cli.proofs.EndsLemmas.{AreForStreams, IsForStream, delivers_more, fails_behind}
 
 -- a line more
 answers_more : (core : Core) (number next : ℕ) (lines : List (List ℕ)) (line : List ℕ) (pieces : List Piece) (piece : Piece) → next ≡ number + length lines
@@ -39,7 +42,7 @@ refused_more front line refused refuses before now =
     ap (λ b. b || refuses) before ∙ ap (λ b. list_any is_refused front || b) (now ∙ sym (or_false (is_refused line))) ∙ sym (list_any-append is_refused front (line ∷ []))
 
 -- the lines up to the rest were answered
-pub record SoFar (core : Core) (commands rest : List ℕ) (number : ℕ) (refused : Bool) (before now : Streams) : Type 0 where
+pub record SoFar (core : Core) (commands rest : List ℕ) (number : ℕ) (refused : Bool) (before now : Outputs) : Type 0 where
   pub front : List (List ℕ)
   pub pieces : List Piece
   pub split : lines_of commands ≡ front ++ lines_of rest
@@ -48,10 +51,10 @@ pub record SoFar (core : Core) (commands rest : List ℕ) (number : ℕ) (refuse
   pub refuses : refused ≡ list_any is_refused front
   pub count : number ≡ length front
 
-pub so_far_none : (core : Core) (commands : List ℕ) (both : Streams) → SoFar core commands commands 0 false both both
+pub so_far_none : (core : Core) (commands : List ℕ) (both : Outputs) → SoFar core commands commands 0 false both both
 so_far_none core commands both = record { front = []; pieces = []; split = refl; answers = tt; delivers = refl; refuses = refl; count = refl }
 
-pub so_far_more : (core : Core) (commands rest line behind : List ℕ) (number : ℕ) (refused refuses both : Bool) (before between after : Streams) → both ≡ (refused || refuses)
+pub so_far_more : (core : Core) (commands rest line behind : List ℕ) (number : ℕ) (refused refuses both : Bool) (before between after : Outputs) → both ≡ (refused || refuses)
     → SoFar core commands rest number refused before between → lines_of rest ≡ line ∷ lines_of behind → EndsLine core (number + 1) line between after (Ok refuses)
     → SoFar core commands behind (number + 1) both before after
 so_far_more core commands rest line behind number refused refuses both before between after e so split ends = record {
@@ -73,7 +76,7 @@ or_else true refuses is = absurd (cc is)
 or_else false refuses is = refl
 
 -- all lines were answered
-pub all_so_far : (core : Core) (commands rest : List ℕ) (number : ℕ) (refused : Bool) (before now : Streams) (status : Status) → length rest ≡ 0 → status ≡ answered refused
+pub all_so_far : (core : Core) (commands rest : List ℕ) (number : ℕ) (refused : Bool) (before now : Outputs) (status : Status) → length rest ≡ 0 → status ≡ answered refused
     → SoFar core commands rest number refused before now → GivesOut (IsAnswered core (lines_of commands)) before now status
 all_so_far core commands (byte ∷ rest) number refused before now status ended is so = absurd (omega (arith, ended))
 all_so_far core commands [] number refused before now status ended is so =
@@ -87,13 +90,13 @@ all_so_far core commands [] number refused before now status ended is so =
     )
 
 -- a line was not answered whole
-pub stopped_so_far : (core : Core) (commands rest line behind : List ℕ) (number : ℕ) (refused : Bool) (before between after : Streams) (end : Status)
+pub stopped_so_far : (core : Core) (commands rest line behind : List ℕ) (number : ℕ) (refused : Bool) (before between after : Outputs) (end : Status)
     → SoFar core commands rest number refused before between → lines_of rest ≡ line ∷ lines_of behind → EndsLine core (number + 1) line between after (Err end)
     → GivesOut (IsAnswered core (lines_of commands)) before after end
 stopped_so_far core commands rest line behind number refused before between after end so split (inl short) = (
   record { pieces = so.pieces; status = NoMemory },
   inr (record { first = so.front; more = lines_of rest; whole = so.split; pieces = so.answers; status = refl }),
-  inl (short.0, subst (λ (s : Streams). Delivers before s so.pieces) (sym short.1) so.delivers),
+  inl (short.0, subst (λ (s : Outputs). Delivers before s so.pieces) (sym short.1) so.delivers),
 )
 stopped_so_far core commands rest line behind number refused before between after end so split (inr failed) =
     let piece = failed.1.0 in (
@@ -107,3 +110,25 @@ stopped_so_far core commands rest line behind number refused before between afte
       }),
       inr (failed.0, fails_behind before between after so.pieces piece so.delivers failed.1.2),
     )
+
+-- ---- answers are for the streams alone
+
+command_for_stream : (core : Core) (number : ℕ) (command : Result Dcmd DcmdFault) (piece : Piece) → AnswersCommand core number command piece → IsForStream piece
+command_for_stream core number (Ok dcmd) piece is = subst IsForStream (sym is.2) tt
+command_for_stream core number (Err fault) piece is = subst IsForStream (sym is) tt
+
+words_for_stream : (core : Core) (number : ℕ) (words : List (List ℕ)) (command : Result Dcmd DcmdFault) (piece : Piece) → AnswersWords core number words command piece → IsForStream piece
+words_for_stream core number [] command piece is = subst IsForStream (sym is) tt
+words_for_stream core number (word ∷ words) command piece is = command_for_stream core number command piece is
+
+lines_for_streams : (core : Core) (number : ℕ) (lines : List (List ℕ)) (pieces : List Piece) → AnswersLines core number lines pieces → AreForStreams pieces
+lines_for_streams core number [] [] are = tt
+lines_for_streams core number [] (piece ∷ pieces) are = absurd are
+lines_for_streams core number (line ∷ lines) [] are = absurd are
+lines_for_streams core number (line ∷ lines) (piece ∷ pieces) are =
+    (words_for_stream core number (words_of line) (command_of line) piece are.0, lines_for_streams core (suc number) lines pieces are.1)
+
+-- the pieces that lines of commands want are for the streams
+pub answered_for_streams : (core : Core) (lines : List (List ℕ)) (wanted : Wanted) → IsAnswered core lines wanted → AreForStreams wanted.pieces
+answered_for_streams core lines wanted (inl all) = lines_for_streams core 1 lines wanted.pieces all.pieces
+answered_for_streams core lines wanted (inr front) = lines_for_streams core 1 front.first wanted.pieces front.pieces

@@ -4,8 +4,10 @@ pub mod Messages
 pub mod Streams
 pub mod World
 pub mod Pieces
+pub mod Cores
 pub mod Histories
 pub mod Transcripts
+pub mod Made
 pub mod Sessions
 pub mod Asked
 pub mod Promise

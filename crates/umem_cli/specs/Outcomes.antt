@@ -9,22 +9,37 @@ use Rattle.core_format.specs.declared.whole.Core.{Core}
 use Rattle.dcmd.specs.declared.dcmd.Dcmd.{Dcmd}
 use Rattle.dcmd.specs.Answers.{IsAnswer}
 use Rattle.umem_cli.specs.declared.limits.TheConstants.{MOST_COMMAND_BYTES}
+use Rattle.umem_cli.specs.declared.job.Job.{Job}
+use Rattle.umem_cli.specs.declared.printed.Printed.{Printed}
 use Rattle.umem_cli.specs.declared.refusal.Refusal.{Refusal}
 use Rattle.umem_cli.specs.declared.status.Status.{Status}
 use Rattle.umem_cli.specs.declared.status.Status.TheVariants as status
+use Rattle.umem_cli.specs.Made.{IsMade}
 use Rattle.umem_cli.specs.Messages.{usage_text}
-use Rattle.umem_cli.specs.Pieces.{DeliversPiece, FailsPiece, Piece}
+use Rattle.umem_cli.specs.Pieces.{DeliversPiece, Ends, FailsPiece, Piece}
 use Rattle.umem_cli.specs.Sessions.{AnswersLine, IsCommandsCause, IsCoreCause, IsCoreIn, is_refused}
-use Rattle.umem_cli.specs.Streams.{Says, Stream, Streams, Takes, TakesFront}
-use Rattle.umem_cli.specs.Transcripts.{IsRunCause, IsTranscript}
+use Rattle.umem_cli.specs.Streams.{Outputs, Says, Stream, Takes, TakesFront}
+use Rattle.umem_cli.specs.Transcripts.{IsPrintedIn, IsRunCause, with_core}
 use Rattle.umem_cli.specs.Words.{AreText}
 
 -- ---- a run
 
--- the transcript of the script in the file, with guards or without, was made, or was not for a cause
-abbrev pub MakesTranscript : Bool → Files → List ℕ → ℕ → ℕ → Result (List ℕ) Refusal → Type 0
-MakesTranscript guards files name before after (Ok text) = IsTranscript guards files name text × (after ≡ before)
-MakesTranscript guards files name before after (Err why) = IsRunCause files name before after why
+-- what a run of the script in the file gives out was made, or was not for a cause
+abbrev pub MakesPrintedIn : Job → Files → ℕ → ℕ → Result Printed Refusal → Type 0
+MakesPrintedIn job files before after (Ok printed) = IsPrintedIn job files printed × (after ≡ before)
+MakesPrintedIn job files before after (Err why) = IsRunCause files job.file before after why
+
+-- what a run gives out went to the output and the folder
+abbrev pub GivesPrinted : Printed → Outputs → Outputs → Status → Type 0
+GivesPrinted printed before after status = Ends before after (with_core printed) status
+
+-- ---- a script that is drawn
+
+-- such a text was written, or the output failed; or memory was short, and nothing was written
+abbrev pub GivesMade : Bool → ℕ → ℕ → Stream → Stream → Status → Type 0
+GivesMade guards seed ops before after result =
+    ((text : List ℕ) × IsMade guards seed ops text × Says text status.Done before after result)
+    ⊎ ((result ≡ status.NoMemory) × (after ≡ before))
 
 -- ---- commands over a core
 
@@ -55,7 +70,7 @@ abbrev pub AnswersSo : Core → ℕ → List ℕ → (Piece → Type 0) → Type
 AnswersSo core number line Goes = (piece : Piece) × AnswersLine core number line piece × Goes piece
 
 -- what is wanted for the line was written, or was not for want of memory, or a stream failed
-abbrev pub EndsLine : Core → ℕ → List ℕ → Streams → Streams → Result Bool Status → Type 0
+abbrev pub EndsLine : Core → ℕ → List ℕ → Outputs → Outputs → Result Bool Status → Type 0
 EndsLine core number line before after (Ok refuses) =
     AnswersSo core number line (DeliversPiece before after) × (refuses ≡ is_refused line)
 EndsLine core number line before after (Err end) =

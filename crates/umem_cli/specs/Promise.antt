@@ -1,5 +1,5 @@
 -- What a call of the program gives out.
-use Rattle.std.specs.Prelude.{◌≡◌, ℕ, ◌⊎◌, ◌≤◌, ⊤, if◌then◌else◌, List, [], ◌∷◌, length, nat_lt, Option, Some, None, Ok}
+use Rattle.std.specs.Prelude.{◌≡◌, ℕ, ◌⊎◌, ◌≤◌, if◌then◌else◌, List, [], ◌∷◌, length, nat_lt, Option, Some, None, Ok}
 use Rattle.std.specs.List.{list_any}
 use Rattle.umem_base.specs.Folder.{bytes_of}
 use Rattle.umem_base.specs.Lines.{lines_of}
@@ -11,20 +11,17 @@ use Rattle.script.specs.Plan.{Plan}
 use Rattle.umem_cli.specs.declared.limits.TheConstants.{MOST_COMMAND_BYTES, MOST_CORE_BYTES}
 use Rattle.umem_cli.specs.declared.status.Status.{Status}
 use Rattle.umem_cli.specs.declared.status.Status.TheVariants.{Done, NoMemory, Refused, Usage}
-use Rattle.umem_cli.specs.Asked.{Task, mdb, none, run, task_of}
+use Rattle.umem_cli.specs.Asked.{Task, make, mdb, none, run, task_of}
 use Rattle.umem_cli.specs.Messages.{usage_text}
-use Rattle.umem_cli.specs.Pieces.{GivesOut, Wanted, for_err}
+use Rattle.umem_cli.specs.Pieces.{GivesOut, Wanted, for_err, nothing}
+use Rattle.umem_cli.specs.Made.{WantsMake}
 use Rattle.umem_cli.specs.Transcripts.{WantsRun}
 use Rattle.umem_cli.specs.Sessions.{WantsMdb, answered, is_refused}
-use Rattle.umem_cli.specs.World.{HasNoFault, KeepsInput, World}
+use Rattle.umem_cli.specs.World.{HasNoFault, KeepsInput, World, outputs_of}
 
 -- the usage lines
 abbrev pub usage : Wanted
 usage = record { pieces = for_err usage_text ∷ []; status = Usage }
-
--- nothing, for want of memory
-abbrev pub nothing : Wanted
-nothing = record { pieces = []; status = NoMemory }
 
 -- the usage lines are wanted, or there is no memory for the words, and nothing is read
 abbrev pub WantsUsage : World → World → Wanted → Type 0
@@ -33,15 +30,16 @@ WantsUsage before after wanted =
 
 -- what may be wanted for what is asked
 abbrev pub IsWanted : Task → World → World → Wanted → Type 0
-IsWanted (run name options) before after wanted =
-    KeepsInput before after × WantsRun (has_guards options) name before after wanted
+IsWanted (run job) before after wanted = KeepsInput before after × WantsRun job before after wanted
 IsWanted (mdb name) before after wanted = WantsMdb name before after wanted
+IsWanted (make seed ops options) before after wanted =
+    KeepsInput before after × WantsMake (has_guards options) seed ops before after wanted
 IsWanted none before after wanted = KeepsInput before after × WantsUsage before after wanted
 
 -- what the program gives out for its words
 abbrev pub GivenOut : List (List ℕ) → World → World → Status → Type 0
 GivenOut words before after status =
-    GivesOut (IsWanted (task_of words) before after) before.streams after.streams status
+    GivesOut (IsWanted (task_of words) before after) (outputs_of before) (outputs_of after) status
 
 -- ---- what a call may not leave out
 
@@ -70,15 +68,24 @@ abbrev pub IsStatusOf : Option (List ℕ) → Status → Type 0
 IsStatusOf None status = (status ≡ Done) ⊎ (status ≡ Refused)
 IsStatusOf (Some commands) status = status ≡ commands_status commands
 
--- Where a script or a core is there and no count rose, the call is done, or memory was short. Words that ask for
--- neither are refused, or memory was short.
+-- Where no count rose, and the script or the core is there if one is needed, the call is done, or memory was short.
+-- Words that ask for nothing are refused, or memory was short.
 abbrev pub IsWholeOf : Task → World → World → Status → Type 0
-IsWholeOf (run name options) before after status =
-    IsScriptThere name before → HasNoFault before after → (status ≡ Done) ⊎ (status ≡ NoMemory)
+IsWholeOf (run job) before after status =
+    IsScriptThere job.file before → HasNoFault before after → (status ≡ Done) ⊎ (status ≡ NoMemory)
 IsWholeOf (mdb name) before after status =
     IsCoreThere name before → HasNoFault before after → IsStatusOf before.input status ⊎ (status ≡ NoMemory)
+IsWholeOf (make seed ops options) before after status =
+    HasNoFault before after → (status ≡ Done) ⊎ (status ≡ NoMemory)
 IsWholeOf none before after status = HasNoFault before after → (status ≡ Usage) ⊎ (status ≡ NoMemory)
 
 -- the same for words
 abbrev pub IsWhole : List (List ℕ) → World → World → Status → Type 0
 IsWhole words before after status = IsWholeOf (task_of words) before after status
+
+-- the file that may get a core
+abbrev pub core_file : Task → Option (List ℕ)
+core_file (run job) = job.core
+core_file (mdb name) = None
+core_file (make seed ops options) = None
+core_file none = None

@@ -1,5 +1,5 @@
 -- What commands over a core want to give out.
-use Rattle.std.specs.Prelude.{◌≡◌, ℕ, suc, ◌≤◌, ◌⊎◌, ⊤, Bool, true, false, if◌then◌else◌, List, [], ◌∷◌, ◌++◌, length, Option, Result, Ok, Err}
+use Rattle.std.specs.Prelude.{◌≡◌, ℕ, suc, ◌≤◌, ◌⊎◌, ⊤, Bool, false, if◌then◌else◌, List, [], ◌∷◌, ◌++◌, length, Option, Result, Ok, Err}
 use Rattle.std.specs.Io.KnownBytes.{IsAtEnd}
 use Rattle.std.specs.List.{list_any}
 use Rattle.std.specs.Result.{is_err}
@@ -21,7 +21,7 @@ use Rattle.umem_cli.specs.declared.status.Status.{Status}
 use Rattle.umem_cli.specs.declared.status.Status.TheVariants.{Done, NoMemory, Refused}
 use Rattle.umem_cli.specs.Messages.{line_message}
 use Rattle.umem_cli.specs.Pieces.{GivesOut, Piece, Wanted, for_err, for_out, refused}
-use Rattle.umem_cli.specs.World.{KeepsInput, World}
+use Rattle.umem_cli.specs.World.{KeepsInput, World, outputs_of}
 
 -- ---- the core
 
@@ -161,4 +161,5 @@ WantsMdb name before after wanted =
 
 -- what commands over the core in the file of that name give out
 abbrev pub GivenByMdb : List ℕ → World → World → Status → Type 0
-GivenByMdb name before after status = GivesOut (WantsMdb name before after) before.streams after.streams status
+GivenByMdb name before after status =
+    GivesOut (WantsMdb name before after) (outputs_of before) (outputs_of after) status

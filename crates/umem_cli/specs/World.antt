@@ -2,7 +2,7 @@
 use Rattle.std.specs.Prelude.{◌≡◌, ℕ, List, Option, None}
 use Rattle.umem_base.specs.Faults.{Rose}
 use Rattle.umem_base.specs.Folder.{Files}
-use Rattle.umem_cli.specs.Streams.{Streams}
+use Rattle.umem_cli.specs.Streams.{Outputs, Streams, outputs}
 
 -- what is seen at a moment: the files and the two counts of the folder, what is left of the input, where it tells it,
 -- with its count of faults, and the streams
@@ -28,6 +28,10 @@ world files read_faults write_faults input input_faults streams = record {
 -- the same where there is no input
 abbrev pub without_input : Files → ℕ → ℕ → Streams → World
 without_input files read_faults write_faults streams = world files read_faults write_faults None 0 streams
+
+-- what is seen of all that pieces may go to
+abbrev pub outputs_of : World → Outputs
+outputs_of its = outputs its.streams (record { files = its.files; faults = its.write_faults })
 
 -- nothing was read of the input
 abbrev pub KeepsInput : World → World → Type 0

@@ -4,7 +4,7 @@ ghost use Rattle.umem_cli.specs.Outcomes.{EndsAnswer, EndsLine, ReadsCommands, R
 ghost use Rattle.umem_cli.specs.Pieces.{GivesOut};
 ghost use Rattle.umem_cli.specs.Refusal.{refusal_of_file};
 ghost use Rattle.umem_cli.specs.Sessions.{GivenByMdb, IsAnswered};
-ghost use Rattle.umem_cli.specs.Streams.{stream, streams};
+ghost use Rattle.umem_cli.specs.Streams.{stream, streams, without_store};
 ghost use Rattle.umem_cli.specs.World.{world};
 
 use crate::limits::{MOST_COMMAND_BYTES, MOST_CORE_BYTES};
@@ -99,8 +99,9 @@ fn answer_commands<O: Sink, E: Sink>(
     err: &mut E,
 ) -> Status
     ensures { GivesOut (IsAnswered view.now (lines_of commands.now))
-        (streams (O.taken out.old) (O.faults out.old) (E.taken err.old) (E.faults err.old))
-        (streams (O.taken out.new) (O.faults out.new) (E.taken err.new) (E.faults err.new)) result }
+        (without_store (streams (O.taken out.old) (O.faults out.old) (E.taken err.old) (E.faults err.old)))
+        (without_store (streams (O.taken out.new) (O.faults out.new) (E.taken err.new) (E.faults err.new)))
+        result }
 {
     let mut rest = commands;
     let mut number = 0;
@@ -131,8 +132,9 @@ fn answer_line<O: Sink, E: Sink>(
     err: &mut E,
 ) -> Result<bool, Status>
     ensures { EndsLine view.now number line.now
-        (streams (O.taken out.old) (O.faults out.old) (E.taken err.old) (E.faults err.old))
-        (streams (O.taken out.new) (O.faults out.new) (E.taken err.new) (E.faults err.new)) result }
+        (without_store (streams (O.taken out.old) (O.faults out.old) (E.taken err.old) (E.faults err.old)))
+        (without_store (streams (O.taken out.new) (O.faults out.new) (E.taken err.new) (E.faults err.new)))
+        result }
 {
     if split_word(line).is_none() {
         return Ok(false);

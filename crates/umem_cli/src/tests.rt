@@ -2,6 +2,7 @@
 
 mod first_path;
 mod guarded;
+mod made;
 mod scene;
 mod sessions;
 mod small_core;

@@ -1,10 +1,13 @@
-ghost use Rattle.std.specs.Prelude.{◌≡◌, map};
+ghost use Rattle.std.specs.Prelude.{map};
 ghost use Rattle.std.specs.String.{string_bytes};
-ghost use Rattle.umem_cli.specs.Promise.{GivenOut, IsWhole};
+ghost use Rattle.umem_cli.specs.Asked.{task_of};
+ghost use Rattle.umem_cli.specs.Promise.{GivenOut, IsWhole, core_file};
 ghost use Rattle.umem_cli.specs.Streams.{streams};
+ghost use Rattle.umem_cli.specs.Transcripts.{KeepsOtherFiles, KeepsWriteFaults};
 ghost use Rattle.umem_cli.specs.World.{world};
 
 use crate::job::Job;
+use crate::make::make;
 use crate::report::refuse_words;
 use crate::script_run::run_script;
 use crate::session::diagnose;
@@ -43,8 +46,10 @@ pub fn umem<R: Threads + Wait + Sync, S: Source, O: Sink, E: Sink, F: Folder, G:
         (S.left input.new) (S.faults input.new)
         (streams (O.taken out.new) (O.faults out.new) (E.taken err.new) (E.faults err.new)))
         result }
-    ensures files { F.files files.new ≡ F.files files.old }
-    ensures write_faults { F.write_faults files.new ≡ F.write_faults files.old }
+    ensures files { KeepsOtherFiles (core_file (task_of (map string_bytes words.now)))
+        (F.files files.old) (F.files files.new) }
+    ensures write_faults { KeepsWriteFaults (core_file (task_of (map string_bytes words.now)))
+        (F.write_faults files.old) (F.write_faults files.new) }
 {
     let asked = match read_words(alloc, words) {
         Ok(asked) => asked,
@@ -55,19 +60,15 @@ pub fn umem<R: Threads + Wait + Sync, S: Source, O: Sink, E: Sink, F: Folder, G:
     };
     match asked {
         Asked::Run(job) => {
-            // Cores are not written yet.
-            if job.core.is_some() {
-                return refuse_words(err);
-            }
             let job = Job {
                 file: job.script,
+                core: job.core,
                 options: job.options,
                 logging: job.logging,
             };
             run_script(rt, alloc, &job, out, err, files, gate)
         }
         Asked::Mdb(job) => diagnose(alloc, &job.core, input, out, err, files),
-        // Scripts are not made yet.
-        Asked::Make(_) => refuse_words(err),
+        Asked::Make(job) => make(alloc, &job, out),
     }
 }

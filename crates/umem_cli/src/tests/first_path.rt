@@ -109,7 +109,7 @@ fn refuses_words_files_and_scripts(rt: HostRuntime) -> Result<(), Fail> {
             USAGE,
         ),
         (
-            &[b"run", b"first.umem", b"--core", b"c"],
+            &[b"run", b"first.umem", b"--core"],
             FIRST,
             Status::Usage,
             USAGE,
@@ -121,7 +121,7 @@ fn refuses_words_files_and_scripts(rt: HostRuntime) -> Result<(), Fail> {
             USAGE,
         ),
         (
-            &[b"make", b"--seed", b"0", b"--ops", b"1"],
+            &[b"make", b"--seed", b"0", b"--debug", b"guards"],
             FIRST,
             Status::Usage,
             USAGE,
