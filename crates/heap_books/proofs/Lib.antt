@@ -6,3 +6,4 @@ pub mod CachesLemmas
 mod OneListLemmas
 mod RangeLemmas
 mod FreedLemmas
+pub mod FinishLemmas

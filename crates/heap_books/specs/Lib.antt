@@ -2,3 +2,4 @@ pub mod Journal
 pub mod Books
 pub mod Made
 pub mod Freed
+pub mod Finish

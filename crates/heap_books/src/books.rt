@@ -1,4 +1,4 @@
-ghost use Rattle.std.specs.Prelude.{◌≡◌, ◌^◌, ◌<◌, ◌≤◌, ◌↔◌, [], AllPairs, IfOk, MatchOption, OnErr, IsTrue, is_some, option_map};
+ghost use Rattle.std.specs.Prelude.{◌≡◌, ◌^◌, ◌<◌, ◌≤◌, ◌↔◌, [], AllPairs, IfOk, MatchOption, OnErr, OnOk, IsTrue, is_some, option_map};
 ghost use Rattle.umem_options.specs.Limits.{IsLogging, IsOptions};
 ghost use Rattle.script.specs.Plan.{plan_of};
 ghost use Rattle.script.specs.Rules.{IsPlan};
@@ -7,10 +7,11 @@ ghost use Rattle.plain_heap.specs.State.{next_chunk};
 ghost use Rattle.heap_ledger.specs.Ledger.{IsLedger, run_setting, run_state};
 ghost use Rattle.heap_slabs.specs.HeapSlabs.{AreStandingIn};
 ghost use Rattle.heap_accounts.specs.Asked.{asked_of};
-ghost use Rattle.heap_accounts.specs.Finish.{IsNextDue};
+ghost use Rattle.heap_accounts.specs.Finish.{GoesOn, IsNextDue};
 ghost use Rattle.heap_accounts.specs.Kinds.{is_large, is_plain_call};
 ghost use Rattle.heap_accounts.specs.Places.{slab_with_number};
 ghost use Rattle.heap_accounts.specs.Turns.{TakesFree, TakesGrow, TakesLast, TakesReap, TakesRound, TakesTurn};
+ghost use Rattle.heap_books.specs.Finish.{MakesCallsLeft, MakesNext};
 ghost use Rattle.heap_pictures.specs.Drawn.{AreListsOf};
 ghost use Rattle.heap_pictures.specs.Pictures.{DrawnWith};
 
@@ -203,6 +204,40 @@ impl Books {
         ensures { TakesReap self.old self.new thread call result }
     {
         commit_reap(&mut self.accounts, &mut self.journal, thread, call)
+    }
+
+    /// Makes the calls that are left, phase by phase, and in a phase thread by thread, an allocation from a cache with
+    /// what is left of it. Where memory is short, those that were made stand. The order is this project's own.
+    pub fn finish(&mut self, alloc: Global) -> Result<(), NoMemory>
+        ensures goes_on { GoesOn self.old self.new }
+        ensures done { OnOk result (IsFinished self.new.plan self.new.entries) }
+        ensures by_kind { MakesCallsLeft self.old self.new }
+    {
+        while let Some(due) = self.next_due() {
+            self.make_next(alloc, due)?;
+            // Says that the entries are legal.
+            let _ = self.history();
+        }
+        Ok(())
+    }
+
+    /// Makes the next call of the lowest thread that has one, by the commit of its kind.
+    fn make_next(&mut self, alloc: Global, due: Due) -> Result<(), NoMemory>
+        requires { IsNextDue self.old.plan self.old.entries due }
+        ensures ok { OnOk result (MakesNext self.old self.new) }
+        ensures err { OnErr result (self.new ≡ self.old) }
+    {
+        let Some(asked) = self.asked(due.thread, due.call) else {
+            unreachable!();
+        };
+        match asked {
+            Asked::Plain => _ = self.commit_plain(due.thread, due.call),
+            Asked::Large => _ = self.commit_large(due.thread, due.call)?,
+            Asked::Chunk { .. } => _ = self.commit_last(alloc, due.thread, due.call)?,
+            Asked::Free => _ = self.commit_free(due.thread, due.call),
+            Asked::Reap => _ = self.commit_reap(due.thread, due.call),
+        }
+        Ok(())
     }
 
     /// The core of the run, with its free chunks at these places, and with its audits and logs.
