@@ -135,6 +135,8 @@ impl Heap {
         ensures entries { result.now.items ≡ self.now.entries }
         ensures sound { IsLedger self.now }
         ensures placed { IsPlaced (run_setting self.now) self.now.entries }
+        ensures options { IsOptions self.now.options }
+        ensures logging { IsLogging self.now.logging }
     {
         self.books.history()
     }

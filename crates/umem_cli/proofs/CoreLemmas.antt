@@ -13,7 +13,8 @@ use Rattle.core_format.specs.declared.core_fault.CoreFault.TheVariants as core
 use Rattle.core_format.specs.declared.whole.Core.{Core}
 use Rattle.core_format.specs.Cores.{core_of}
 use Rattle.core_format.specs.Reader.{IsToldBy}
-use Rattle.umem_cli.specs.declared.limits.TheConstants.{MOST_COMMAND_BYTES, MOST_CORE_BYTES}
+use Rattle.core_sizes.specs.declared.limits.TheConstants.{MOST_CORE_BYTES}
+use Rattle.umem_cli.specs.declared.limits.TheConstants.{MOST_COMMAND_BYTES}
 use Rattle.umem_cli.specs.declared.refusal.Refusal.{Refusal}
 use Rattle.umem_cli.specs.Outcomes.{ReadsCommands, ReadsCore}
 use Rattle.umem_cli.specs.Refusal.{refusal_of_commands, refusal_of_core, refusal_of_file}

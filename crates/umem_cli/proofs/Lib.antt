@@ -1,7 +1,6 @@
 pub mod MessagesLemmas
 pub mod EndsLemmas
 pub mod PrintedLemmas
-pub mod CachesLemmas
 pub mod TranscriptLemmas
 pub mod CoreLemmas
 pub mod LineLemmas

@@ -11,7 +11,8 @@ use Rattle.core_format.specs.Cores.{core_of}
 use Rattle.umem_options.specs.declared.options.Options.{Options}
 use Rattle.umem_options.specs.Flags.{has_guards}
 use Rattle.script.specs.Grammar.{script_of}
-use Rattle.umem_cli.specs.declared.limits.TheConstants.{MOST_COMMAND_BYTES, MOST_CORE_BYTES}
+use Rattle.core_sizes.specs.declared.limits.TheConstants.{MOST_CORE_BYTES}
+use Rattle.umem_cli.specs.declared.limits.TheConstants.{MOST_COMMAND_BYTES}
 use Rattle.umem_cli.specs.declared.refusal.Refusal.{Refusal}
 use Rattle.umem_cli.specs.declared.refusal.Refusal.TheVariants as refusal
 use Rattle.umem_cli.specs.declared.status.Status.{Status}

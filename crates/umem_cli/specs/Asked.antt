@@ -8,8 +8,7 @@ use Rattle.umem_words.specs.Jobs.{job_of}
 use Rattle.umem_cli.specs.declared.job.Job.{Job}
 
 -- to run the script in a file, and leave a core in another if one is named; to answer commands over the core in a file;
--- to run a script of so many operations that is drawn from a seed; or nothing that
--- there is
+-- to run a script of so many operations that is drawn from a seed; or nothing that there is
 pub data Task : Type 0 where
   run : (job : Job) → Task
   mdb : (name : List ℕ) → Task

@@ -8,7 +8,8 @@ use Rattle.core_format.specs.Cores.{core_of}
 use Rattle.umem_options.specs.Flags.{has_guards}
 use Rattle.script.specs.Grammar.{script_of}
 use Rattle.script.specs.Plan.{Plan}
-use Rattle.umem_cli.specs.declared.limits.TheConstants.{MOST_COMMAND_BYTES, MOST_CORE_BYTES}
+use Rattle.core_sizes.specs.declared.limits.TheConstants.{MOST_CORE_BYTES}
+use Rattle.umem_cli.specs.declared.limits.TheConstants.{MOST_COMMAND_BYTES}
 use Rattle.umem_cli.specs.declared.status.Status.{Status}
 use Rattle.umem_cli.specs.declared.status.Status.TheVariants.{Done, NoMemory, Refused, Usage}
 use Rattle.umem_cli.specs.Asked.{Task, make, mdb, none, run, task_of}

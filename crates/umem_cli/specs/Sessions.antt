@@ -14,7 +14,8 @@ use Rattle.dcmd.specs.declared.dcmd.Dcmd.{Dcmd}
 use Rattle.dcmd.specs.declared.fault.DcmdFault.{DcmdFault}
 use Rattle.dcmd.specs.Answers.{IsAnswer}
 use Rattle.dcmd.specs.Commands.{command_of}
-use Rattle.umem_cli.specs.declared.limits.TheConstants.{MOST_COMMAND_BYTES, MOST_CORE_BYTES}
+use Rattle.core_sizes.specs.declared.limits.TheConstants.{MOST_CORE_BYTES}
+use Rattle.umem_cli.specs.declared.limits.TheConstants.{MOST_COMMAND_BYTES}
 use Rattle.umem_cli.specs.declared.refusal.Refusal.{Refusal}
 use Rattle.umem_cli.specs.declared.refusal.Refusal.TheVariants as refusal
 use Rattle.umem_cli.specs.declared.status.Status.{Status}

@@ -22,7 +22,7 @@ mod words;
 pub use arguments::command_words;
 pub use given::{Words, given_words};
 pub use job::Job;
-pub use limits::{MOST_COMMAND_BYTES, MOST_CORE_BYTES};
+pub use limits::MOST_COMMAND_BYTES;
 pub use mem_words::MemWords;
 pub use script_run::run_script;
 pub use session::diagnose;

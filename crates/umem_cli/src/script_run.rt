@@ -16,6 +16,7 @@ use crate::report::refuse;
 use crate::run::run;
 use crate::status::Status;
 use core_format::write_core;
+use core_sizes::laws::cores_of_runs_are_read;
 use heap_core::Heap;
 use plain_heap::transcript;
 use script::{MOST_BYTES, Script, read_script};
@@ -89,6 +90,9 @@ fn core_asked(alloc: Global, heap: &Heap, name: &Option<Text>) -> Result<Option<
     let Some(name) = name else {
         return Ok(None);
     };
+    // Says that options and sizes are within their limits, so that the core is no longer than what is read.
+    let _ = heap.history();
+    cores_of_runs_are_read();
     let core = heap.snapshot(alloc)?;
     Ok(Some(CoreFile {
         name: name.clone()?,

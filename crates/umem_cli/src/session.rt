@@ -7,12 +7,13 @@ ghost use Rattle.umem_cli.specs.Sessions.{GivenByMdb, IsAnswered};
 ghost use Rattle.umem_cli.specs.Streams.{stream, streams, without_store};
 ghost use Rattle.umem_cli.specs.World.{world};
 
-use crate::limits::{MOST_COMMAND_BYTES, MOST_CORE_BYTES};
+use crate::limits::MOST_COMMAND_BYTES;
 use crate::message::write_line_message;
 use crate::refusal::Refusal;
 use crate::report::refuse;
 use crate::status::Status;
 use core_format::read_core;
+use core_sizes::MOST_CORE_BYTES;
 use dcmd::{Dcmd, answer, read_dcmd};
 use heap_view::View;
 use std::alloc::Global;

@@ -2,7 +2,7 @@ use Rattle.std.proofs.Common.{refl}
 use Rattle.umem_options.specs.Flags.{has_guards}
 use Rattle.script.specs.Plan.{plan_of}
 use Rattle.plain_heap.specs.Answers.{setting_for}
-use Rattle.umem_cli.proofs.CachesLemmas.{history_caches}
+use Rattle.heap_books.proofs.CachesLemmas.{history_caches}
 use Rattle.umem_cli.proofs.TranscriptLemmas.{given_history}
 use Rattle.umem_cli.proofs.run.run.Goals as goal
 
