@@ -1,13 +1,14 @@
 //! The buffers of a core by address, and what stands at an address.
 
-use crate::core::{half, word, Cache, Core};
+use crate::core::{Core, Slab};
+use crate::memory::ROOT_BASE;
+use crate::sizes::PAGE;
 use std::cmp::Ordering;
 
 #[derive(Clone, Copy)]
 pub struct Buffer {
     pub address: u64,
     pub size: u64,
-    #[allow(dead_code)]
     pub cache: Option<u32>,
     pub chunk: Option<u32>,
 }
@@ -15,14 +16,22 @@ pub struct Buffer {
 pub struct View<'a> {
     pub core: &'a Core<'a>,
     pub buffers: Vec<Buffer>,
-    #[allow(dead_code)]
     pub free: Vec<Buffer>,
     #[allow(dead_code)]
     chunks: Vec<u32>,
     held: Vec<u32>,
 }
 
+/// What an address stands in.
+pub enum Hit {
+    Chunk { slab: usize, index: u32, offset: u64 },
+    Large { index: usize, offset: u64 },
+    Slab { slab: usize },
+    Root { thread: Option<u64>, word: u64 },
+}
+
 impl<'a> View<'a> {
+    /// The view of a core.
     pub fn new(core: &'a Core<'a>) -> View<'a> {
         let mut held = core.held.clone();
         held.sort_unstable();
@@ -54,6 +63,7 @@ impl<'a> View<'a> {
         View { core, buffers, free, chunks, held }
     }
 
+    /// Tells whether a chunk stands in a list or a magazine.
     pub fn is_held(&self, chunk: u32) -> bool {
         self.held.binary_search(&chunk).is_ok()
     }
@@ -65,15 +75,40 @@ impl<'a> View<'a> {
         (address - slab.base < slab.bytes.len() as u64).then_some(index)
     }
 
+    /// The index of the chunk of a slab in whose buffer an address stands, and the offset there.
+    fn place_in(&self, slab: &Slab, address: u64) -> Option<(u64, u64)> {
+        let cache = &self.core.caches[slab.cache as usize];
+        let place = (address - slab.base).checked_sub(u64::from(slab.colour))?;
+        let (index, offset) = (place / u64::from(cache.chunk), place % u64::from(cache.chunk));
+        (index < u64::from(cache.rounds) && offset < u64::from(cache.size)).then_some((index, offset))
+    }
+
     /// Tells whether the address stands in a chunk's buffer.
     pub fn find(&self, address: u64) -> bool {
         let Some(index) = self.slab_at(address) else { return false };
-        let slab = &self.core.slabs[index];
-        let cache = &self.core.caches[slab.cache as usize];
-        let Some(place) = (address - slab.base).checked_sub(u64::from(slab.colour)) else { return false };
-        place / u64::from(cache.chunk) < u64::from(cache.rounds) && place % u64::from(cache.chunk) < u64::from(cache.size)
+        self.place_in(&self.core.slabs[index], address).is_some()
     }
 
+    /// What the address stands in, if in anything.
+    pub fn hit(&self, address: u64) -> Option<Hit> {
+        if let Some(slab) = self.slab_at(address) {
+            return Some(match self.place_in(&self.core.slabs[slab], address) {
+                Some((index, offset)) => Hit::Chunk { slab, index: index as u32, offset },
+                None => Hit::Slab { slab },
+            });
+        }
+        if let Some(index) = self.core.large.partition_point(|item| item.base <= address).checked_sub(1) {
+            let item = &self.core.large[index];
+            if address - item.base < item.bytes.len() as u64 {
+                return Some(Hit::Large { index, offset: address - item.base });
+            }
+        }
+        let place = address.checked_sub(ROOT_BASE).filter(|place| place / 8 < self.core.roots.len() as u64)?;
+        let page = PAGE as u64;
+        Some(Hit::Root { thread: (place / page).checked_sub(1), word: place % page / 8 })
+    }
+
+    /// The bytes from an address of the arena to the end of its slab or its large buffer.
     pub fn bytes_from(&self, address: u64) -> &'a [u8] {
         if let Some(index) = self.slab_at(address) {
             let slab = &self.core.slabs[index];
@@ -84,6 +119,7 @@ impl<'a> View<'a> {
         &item.bytes[(address - item.base) as usize..]
     }
 
+    /// The index of the allocated buffer that has the address.
     pub fn buffer_at(&self, address: u64) -> Option<usize> {
         let has = |buffer: &Buffer| {
             if address < buffer.address {
@@ -96,40 +132,4 @@ impl<'a> View<'a> {
         };
         self.buffers.binary_search_by(has).ok()
     }
-}
-
-const BUFCTL_BASE: u64 = 0x4000_0000;
-const ALLOCATED: u64 = 0xa110_c8ed;
-const FREE: u64 = 0xf4ee_f4ee;
-
-/// The number of the first row that the chunk breaks.
-pub fn first_broken(bytes: &[u8], cache: &Cache, class: u32, chunk: u32, is_free: bool) -> Option<u32> {
-    let content = cache.size.next_multiple_of(8) as usize;
-    let bufctl = BUFCTL_BASE + 64 * u64::from(chunk);
-    let mark = if is_free { FREE } else { ALLOCATED };
-    let tag = word(bytes, content + 8) != bufctl || word(bytes, content + 16) != bufctl ^ mark;
-    if is_free {
-        if let Some(index) = (0..content / 8).find(|index| word(bytes, 8 * index) != 0xdead_beef_dead_beef) {
-            return Some(index as u32);
-        }
-        if word(bytes, content) != 0xfeed_face_feed_face {
-            return Some(7);
-        }
-        return tag.then_some(8);
-    }
-    if tag {
-        return Some(0);
-    }
-    if class >= 32 {
-        return (word(bytes, content) != 0xfeed_face_feed_face).then_some(5);
-    }
-    let code = half(bytes, content + 4);
-    let size = code / 251;
-    if code % 251 != 1 || size == 0 || size > cache.size {
-        return Some(1);
-    }
-    if bytes[size as usize] != 0xbb {
-        return Some(2);
-    }
-    (half(bytes, content) != 0xfeed_face).then_some(3)
 }
