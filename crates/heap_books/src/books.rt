@@ -12,14 +12,17 @@ ghost use Rattle.heap_accounts.specs.Kinds.{is_large, is_plain_call};
 ghost use Rattle.heap_accounts.specs.Places.{slab_with_number};
 ghost use Rattle.heap_accounts.specs.Turns.{TakesFree, TakesGrow, TakesLast, TakesReap, TakesRound, TakesTurn};
 ghost use Rattle.heap_books.specs.Finish.{MakesCallsLeft, MakesNext};
+ghost use Rattle.heap_books.specs.Fit.{FitRun};
+ghost use Rattle.heap_books.specs.InLists.{DrawnInLists};
 ghost use Rattle.heap_pictures.specs.Drawn.{AreListsOf};
-ghost use Rattle.heap_pictures.specs.Pictures.{DrawnWith};
+ghost use Rattle.heap_pictures.specs.Pictures.{DrawnWith, Pictures};
 
 use crate::chunk_commits::{commit_alloc, commit_grow, commit_last};
 use crate::draw::draw;
 use crate::free_commits::commit_free;
 use crate::journal::Journal;
 use crate::large_commits::commit_large;
+use crate::picture::picture;
 use crate::plain_commits::{commit_plain, commit_reap};
 use crate::start::start;
 use core_format::Core;
@@ -246,5 +249,17 @@ impl Books {
         ensures { IfOk result (DrawnWith self.now places) }
     {
         draw(alloc, &self.accounts, &self.journal, places)
+    }
+
+    /// The core of the run, with its free chunks at these places where they fit, and where they do not, with each in
+    /// its slab's list and with empty magazines, which is this project's own. It refuses for want of memory alone.
+    pub fn picture(&self, alloc: Global, places: FreePlaces) -> Result<Core, NoMemory>
+        ensures fitting { FitRun (run_setting self.now) (run_state self.now) places
+            → IfOk result (DrawnWith self.now places) }
+        ensures others { ¬ FitRun (run_setting self.now) (run_state self.now) places
+            → IfOk result (DrawnInLists self.now) }
+        ensures pictures { IfOk result (Pictures self.now) }
+    {
+        picture(alloc, &self.accounts, &self.journal, places)
     }
 }

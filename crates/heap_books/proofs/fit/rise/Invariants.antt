@@ -1,0 +1,5 @@
+use Rattle.std.proofs.Common.{ℕ, ◌+◌, ◌<◌, get_or}
+use Rattle.heap_books.proofs.fit.rise.Given as goal
+
+abbrev pub invariant-loop-index : goal.invariant-loop-index
+invariant-loop-index l = (k : ℕ) → k + 1 < l.index → get_or l.numbers k 0 < get_or l.numbers (k + 1) 0
