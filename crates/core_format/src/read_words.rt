@@ -23,11 +23,12 @@ fn word(reader: &mut Reader) -> Result<u64, CoreFault>
     Ok(word)
 }
 
-/// So many words of eight bytes.
+/// So many words of eight bytes. It takes room for no more than are left.
 pub fn words(alloc: Global, reader: &mut Reader, count: u32) -> Result<Vec<u64>, CoreFault>
     ensures { ReadsAs (λ words. (words.items, reader.new)) result (words_at count reader.old) }
 {
-    let mut words = Vec::new(alloc);
+    let most = reader.left() / 8;
+    let mut words = Vec::with_capacity(alloc, most.min(count as usize))?;
     for _ in 0..count {
         let word = word(reader)?;
         words.push(word)?;

@@ -6,6 +6,7 @@ use crate::line_fault::LineFault;
 use crate::reasons::Reason;
 
 /// Two values, or the first fault: want of memory, or else the reason that stands first in the table.
+#[inline(always)]
 pub(crate) fn both<A: Drop, B: Drop>(
     a: Result<A, LineFault>,
     b: Result<B, LineFault>,

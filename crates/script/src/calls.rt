@@ -87,6 +87,7 @@ impl<'a> Draft<'a> {
         }
     }
 
+    #[inline]
     fn read_sized(&self, alloc: Global, line: &[u8]) -> Result<(u32, (u32, Stack)), LineFault>
         ensures { GivesSized result self.now.header (words_of line.now) }
     {
@@ -100,6 +101,7 @@ impl<'a> Draft<'a> {
         both(slot, behind)
     }
 
+    #[inline]
     fn read_cached(&self, alloc: Global, line: &[u8]) -> Result<(u32, (u32, Stack)), LineFault>
         ensures { GivesCached result self.now.header (words_of line.now) }
     {

@@ -144,6 +144,7 @@ fn is_frame(part: &[u8]) -> bool
     read_hex(part).is_ok()
 }
 
+#[inline(always)]
 fn read_frame(part: &[u8]) -> Result<u64, LineFault>
     ensures { Gives (λ n. n) result (frame_fault part.now) (frame_in part.now) }
 {

@@ -149,6 +149,7 @@ impl<'a> Draft<'a> {
         }
     }
 
+    #[inline]
     fn take_call(
         &mut self,
         alloc: Global,
@@ -170,6 +171,7 @@ impl<'a> Draft<'a> {
         Ok(())
     }
 
+    #[inline]
     fn read_turn(
         &self,
         alloc: Global,

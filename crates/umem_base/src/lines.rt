@@ -3,6 +3,7 @@ ghost use Rattle.umem_base.specs.Lines.{BeginsWord, SplitsWord, is_blank, lines_
 
 /// The first line, without its end, and what stands behind it. A line ends at byte 10; the last one may have no
 /// end. It takes no memory.
+#[inline]
 pub fn split_line(bytes: &[u8]) -> (&[u8], &[u8])
     requires { 0 < length bytes.now }
     ensures lines { lines_of bytes.now ≡ result.0.now ∷ lines_of result.1.now }
@@ -16,6 +17,7 @@ pub fn split_line(bytes: &[u8]) -> (&[u8], &[u8])
 
 /// The first word of a line, and what stands behind it, if there is a word. Blanks separate words, and what stands
 /// behind a word begins with one. It takes no memory.
+#[inline]
 pub fn split_word(line: &[u8]) -> Option<(&[u8], &[u8])>
     ensures words { SplitsWord result line.now }
 {
@@ -26,6 +28,7 @@ pub fn split_word(line: &[u8]) -> Option<(&[u8], &[u8])>
 }
 
 // A word, and what stands behind it.
+#[inline(always)]
 fn split_at_blank(line: &[u8]) -> (&[u8], &[u8])
     requires { BeginsWord line.now }
     ensures words { words_of line.now ≡ result.0.now ∷ words_of result.1.now }

@@ -73,6 +73,7 @@ fn glyph(digit: u8) -> u8
 }
 
 /// The number that decimal digits spell. Leading zeros are allowed, a sign is not. It takes no memory.
+#[inline]
 pub fn read_decimal(bytes: &[u8]) -> Result<u64, BadNumber>
     ensures { result ≡ decimal_of bytes.now }
 {
@@ -84,6 +85,7 @@ pub fn read_decimal(bytes: &[u8]) -> Result<u64, BadNumber>
 
 /// The number that hexadecimal digits of either case spell. Leading zeros are allowed, a sign and a prefix
 /// are not. It takes no memory.
+#[inline]
 pub fn read_hex(bytes: &[u8]) -> Result<u64, BadNumber>
     ensures { result ≡ hex_of bytes.now }
 {
@@ -93,12 +95,14 @@ pub fn read_hex(bytes: &[u8]) -> Result<u64, BadNumber>
     digits_value(bytes, 16).ok_or(BadNumber::TooLarge)
 }
 
+#[inline(always)]
 fn are_decimal_digits(bytes: &[u8]) -> bool
     ensures { result ≡ list_all is_ascii_digit bytes.now }
 {
     bytes.iter().all(|byte| byte.is_ascii_digit())
 }
 
+#[inline(always)]
 fn are_hex_digits(bytes: &[u8]) -> bool
     ensures { result ≡ list_all is_ascii_hexdigit bytes.now }
 {
@@ -106,6 +110,7 @@ fn are_hex_digits(bytes: &[u8]) -> bool
 }
 
 // The value of digits, or none where it passes 64 bits.
+#[inline(always)]
 fn digits_value(digits: &[u8], radix: u32) -> Option<u64>
     requires low { 2 ≤ radix }
     requires high { radix ≤ 36 }

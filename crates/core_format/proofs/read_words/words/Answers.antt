@@ -5,7 +5,7 @@ use Rattle.core_format.proofs.read_words.words.Goals as goal
 
 pub returns-in_err-word : goal.returns-in_err-word
 returns-in_err-word c =
-    let p = err_from_is_err_and c.from_residual.result c.from_residual.ensures.1 in
+    let p = err_from_is_err_and c.from_residual-in_err-word.result c.from_residual-in_err-word.ensures.1 in
     rw (p.1, p.2) (items_at-told next_word_at c.args.count c.loop.counter c.loop.words.items c.loop.reader c.in_err-word.field-0.0 (words_at c.args.count c.args.reader.now) c.loop-test.true c.in_err-word.ensures c.loop.invariant)
 
 pub loop-preserved : goal.loop-preserved
