@@ -25,7 +25,7 @@ use Rattle.core_format.specs.Slabs.{large_end, no_shape, shape_at, slab_end}
 use Rattle.core_format.proofs.RangeLemmas.{last_get}
 use Rattle.heap_view.specs.declared.buffer.Buffer.{Buffer}
 use Rattle.heap_view.specs.Buffers.{allocated_buffers, buffer_align, buffer_bytes, buffers_of, by_address, chunk_buffer, chunk_buffers, free_buffers_of, large_buffer, numbers_from, slab_buffers}
-use Rattle.heap_view.specs.Layout.{AreSlabAndLargeApart, IsLaidOut, IsShapeIn, IsSlabBelow, IsSoundSlab, core_geometry}
+use Rattle.heap_view.specs.Layout.{AreSlabAndLargeApart, IsLaidOut, IsShapeIn, IsSlabBelow, IsSoundSlab, core_geometry, geometries_of, item_geometry}
 use Rattle.heap_view.specs.Points.{AreBuffersApart, FitsAddresses, IsBelow}
 use Rattle.heap_view.proofs.ListLemmas.{All-flat_map, AllPairs-append, numbers_rise, numbers_within}
 use Rattle.heap_view.proofs.SortLemmas.{fold_put_apart, fold_put_permutation, same_from_permutation}
@@ -80,6 +80,12 @@ shape_in core cache laid lt =
       rounds_small = sound.rounds_small;
       filled = sound.filled;
     })
+
+-- what holds of those of all caches
+pub shapes_in : (core : Core) (geometries : List Geometry) (cache : ℕ) (d : Geometry) → IsLaidOut core → geometries ≡ geometries_of core → cache < length core.caches → IsShapeIn core cache (get_or geometries cache d)
+shapes_in core geometries cache d laid are lt =
+    let is : get_or geometries cache d ≡ core_geometry core cache = ap (λ (gs : List Geometry). get_or gs cache d) are ∙ get_or-map (item_geometry core) core.caches cache no_cache d lt ∙ geometry_is core cache no_cache lt in
+    subst (IsShapeIn core cache) (sym is) (shape_in core cache laid lt)
 
 -- ---- the chunks of a slab
 

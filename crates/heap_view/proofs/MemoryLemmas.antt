@@ -195,14 +195,11 @@ large_start_rising core laid = λ i j d le lt. elim (cases_lt i j) [
   | inr more ↦ let same : i ≡ j = omega arith in subst (λ (n : ℕ). (get_or core.large n d).base ≤ (get_or core.large j d).base) (sym same) (omega arith)
 ]
 
-pub slab_end_is : (core : Core) (slab : SlabItem) (pages : ℕ) → (shape_at (core_shapes core) slab.cache).pages ≡ pages → slab.base + PAGE_BYTES * pages ≡ slab_end (core_shapes core) slab
-slab_end_is core slab pages e = ap (λ (p : ℕ). slab.base + PAGE_BYTES * p) (sym e)
-
 -- the test of a slab that begins at the address or below
-pub slab_test : (core : Core) (address index : ℕ) (slab : SlabItem) (pages : ℕ) → slab ≡ get_or core.slabs (index - 1) slab → (shape_at (core_shapes core) slab.cache).pages ≡ pages → slab.base ≤ address
-    → ltb (address - slab.base) (PAGE_BYTES * pages) ≡ ltb address (slab_end (core_shapes core) (get_or core.slabs (index - 1) slab))
-slab_test core address index slab pages at e le =
-    offset_test address slab.base (PAGE_BYTES * pages) le ∙ ap (ltb address) (slab_end_is core slab pages e ∙ ap (slab_end (core_shapes core)) at)
+pub slab_test : (core : Core) (address index : ℕ) (slab : SlabItem) (bytes : ℕ) → slab ≡ get_or core.slabs (index - 1) slab → bytes ≡ PAGE_BYTES * (shape_at (core_shapes core) slab.cache).pages → slab.base ≤ address
+    → ltb (address - slab.base) bytes ≡ ltb address (slab_end (core_shapes core) (get_or core.slabs (index - 1) slab))
+slab_test core address index slab bytes at e le =
+    offset_test address slab.base bytes le ∙ ap (ltb address) (ap (λ (n : ℕ). slab.base + n) e ∙ ap (slab_end (core_shapes core)) at)
 
 pub large_test : (core : Core) (address index : ℕ) (item : LargeItem) → item ≡ get_or core.large (index - 1) item → item.base ≤ address
     → ltb (address - item.base) (PAGE_BYTES * pages_for item.size) ≡ ltb address (large_end (get_or core.large (index - 1) item))

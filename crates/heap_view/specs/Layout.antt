@@ -1,5 +1,5 @@
 -- How the slabs, the large buffers and the caches of a core that meets the rules stand to one another.
-use Rattle.std.specs.Prelude.{◌≡◌, ℕ, ◌+◌, ◌*◌, ◌<◌, ◌≤◌, ◌⊎◌, List, length, All, AllPairs, IsTrue, slice_index_or}
+use Rattle.std.specs.Prelude.{◌≡◌, ℕ, ◌+◌, ◌*◌, ◌<◌, ◌≤◌, ◌⊎◌, List, length, map, All, AllPairs, IsTrue, slice_index_or}
 use Rattle.umem_base.specs.declared.arena.TheConstants.{ARENA_BASE}
 use Rattle.umem_base.specs.declared.pages.TheConstants.{PAGE_BYTES}
 use Rattle.umem_base.specs.declared.roots.TheConstants.{ROOT_WORDS}
@@ -90,6 +90,14 @@ pub record IsLaidOut (core : Core) : Type 0 where
 -- the quantities of the slabs of a cache, by its number
 abbrev pub core_geometry : Core → ℕ → Geometry
 core_geometry core cache = geometry_of (buffer_bytes core cache) (buffer_align core cache) (is_guarded_core core)
+
+-- the same, by the cache's item
+abbrev pub item_geometry : Core → CacheItem → Geometry
+item_geometry core item = geometry_of item.def.size item.def.align (is_guarded_core core)
+
+-- those of each cache, by their numbers
+abbrev pub geometries_of : Core → List Geometry
+geometries_of core = map (item_geometry core) core.caches
 
 -- what holds of the quantities of the slabs of a cache of the core
 pub record IsShapeIn (core : Core) (cache : ℕ) (g : Geometry) : Type 0 where

@@ -2,7 +2,7 @@ ghost use Rattle.std.specs.Prelude.{◌≡◌, ℕ, [], ◌∷◌, ◌++◌, if�
 ghost use Rattle.std.specs.List.Sorted.{IsNonDecreasing};
 ghost use Rattle.core_format.specs.Chunks.{allocated_in, free_in, is_chunk_in, is_held};
 ghost use Rattle.heap_view.specs.Buffers.{buffers_of, chunk_buffer, chunk_buffers, chunks_of, free_buffers_of, large_buffer, slab_buffers};
-ghost use Rattle.heap_view.specs.Layout.{IsLaidOut, IsShapeIn, IsSoundSlab, core_geometry};
+ghost use Rattle.heap_view.specs.Layout.{IsLaidOut, IsShapeIn, IsSoundSlab, core_geometry, geometries_of};
 ghost use Rattle.heap_view.specs.View.{AreThose, is_in_state};
 
 use crate::buffer::Buffer;
@@ -23,6 +23,19 @@ pub fn geometry_in(core: &Core, cache: u32) -> Geometry
 {
     let def = &core.caches.as_slice()[cache as usize].def;
     geometry(def.size, def.align, core.flags.contains(DebugFlags::GUARDS))
+}
+
+/// The quantities of the slabs of each cache, by their indices.
+pub fn geometries_of(alloc: Global, core: &Core) -> Result<Vec<Geometry>, NoMemory>
+    requires { IsLaidOut core.now }
+    ensures { IfOk result (λ geometries. geometries.items ≡ geometries_of core.now) }
+{
+    let guards = core.flags.contains(DebugFlags::GUARDS);
+    let mut geometries = Vec::new(alloc);
+    for item in core.caches.as_slice() {
+        geometries.push(geometry(item.def.size, item.def.align, guards))?;
+    }
+    Ok(geometries)
 }
 
 /// The buffer that a chunk of a slab is.

@@ -6,12 +6,12 @@ ghost use Rattle.core_format.specs.declared.items.SlabItem.{SlabItem as SeenSlab
 ghost use Rattle.core_format.specs.Chunks.{core_shapes};
 ghost use Rattle.core_format.specs.Slabs.{slab_end};
 ghost use Rattle.heap_view.specs.Hits.{chunk_at_address, hit_in_arena, hit_in_large, hit_in_slab, hit_of, is_in_pages, word_in_page};
-ghost use Rattle.heap_view.specs.Layout.{IsLaidOut, IsSoundLarge, IsSoundSlab};
+ghost use Rattle.heap_view.specs.Layout.{IsLaidOut, IsShapeIn, IsSoundLarge, IsSoundSlab, geometries_of};
 ghost use Rattle.heap_view.specs.Memory.{core_bytes_from, large_at, large_bytes_from, slab_at};
 ghost use Rattle.heap_view.specs.Search.{IsCut};
 
-use crate::build::geometry_in;
 use crate::hit::Hit;
+use case_table::Geometry;
 use core_format::{Core, LargeItem, SlabItem};
 use umem_base::{OWN_ROOTS, PAGE_BYTES, SHARED_ROOT, pages_for};
 
@@ -43,8 +43,8 @@ pub fn slab_at(core: &Core, address: u64) -> Option<usize>
         return None;
     }
     let slab = &slabs[index - 1];
-    let pages = geometry_in(core, slab.cache).pages;
-    (address - slab.base < PAGE_BYTES * u64::from(pages)).then_some(index - 1)
+    let bytes = slab.bytes.as_slice().len() as u64;
+    (address - slab.base < bytes).then_some(index - 1)
 }
 
 /// The index of the large buffer whose pages have the address. It looks among them by halves.
@@ -63,16 +63,15 @@ pub fn large_at(core: &Core, address: u64) -> Option<usize>
 }
 
 /// What stands at an address of a slab.
-fn hit_in_slab(core: &Core, slab: &SlabItem, address: u64) -> Hit
-    requires laid_out { IsLaidOut core.now }
+fn hit_in_slab(core: &Core, slab: &SlabItem, geometry: &Geometry, address: u64) -> Hit
     requires slab { IsSoundSlab core.now slab.now }
+    requires shape { IsShapeIn core.now slab.now.cache geometry.now }
     requires from { slab.now.base ≤ address }
     requires within { address < slab_end (core_shapes core.now) slab.now }
     ensures { result ≡ hit_in_slab core.now address slab.now }
 {
     // The numbers of chunks are below it, so that each has 32 bits.
     let _next = core.next_chunk;
-    let geometry = geometry_in(core, slab.cache);
     let size = u64::from(core.caches.as_slice()[slab.cache as usize].def.size);
     let chunk_bytes = u64::from(geometry.chunk);
     let place = address - slab.base;
@@ -120,12 +119,17 @@ fn large_hit_at(core: &Core, address: u64) -> Option<Hit>
 }
 
 /// What stands at an address of the arena.
-fn hit_in_arena(core: &Core, address: u64) -> Option<Hit>
-    requires { IsLaidOut core.now }
+fn hit_in_arena(core: &Core, geometries: &[Geometry], address: u64) -> Option<Hit>
+    requires laid_out { IsLaidOut core.now }
+    requires geometries { geometries.now ≡ geometries_of core.now }
     ensures { result ≡ hit_in_arena core.now address }
 {
     match slab_at(core, address) {
-        Some(index) => Some(hit_in_slab(core, &core.slabs.as_slice()[index], address)),
+        Some(index) => {
+            let slab = &core.slabs.as_slice()[index];
+            let geometry = &geometries[slab.cache as usize];
+            Some(hit_in_slab(core, slab, geometry, address))
+        }
         None => large_hit_at(core, address),
     }
 }
@@ -146,9 +150,10 @@ fn word_in_page(address: u64) -> u32
     (address % PAGE_BYTES / 8) as u32
 }
 
-/// What stands at an address.
-pub fn hit_at(core: &Core, address: u64) -> Option<Hit>
-    requires { IsLaidOut core.now }
+/// What stands at an address. It is given the quantities of the slabs of each cache.
+pub fn hit_at(core: &Core, geometries: &[Geometry], address: u64) -> Option<Hit>
+    requires laid_out { IsLaidOut core.now }
+    requires geometries { geometries.now ≡ geometries_of core.now }
     ensures { result ≡ hit_of core.now address }
 {
     if is_in_pages(SHARED_ROOT, 1, address) {
@@ -163,7 +168,7 @@ pub fn hit_at(core: &Core, address: u64) -> Option<Hit>
             word: word_in_page(address),
         });
     }
-    hit_in_arena(core, address)
+    hit_in_arena(core, geometries, address)
 }
 
 fn bytes_behind(bytes: &[u8], offset: u64) -> &[u8]

@@ -1,5 +1,5 @@
-ghost use Rattle.std.specs.Prelude.{◌≡◌, ◌-◌, ◌*◌, ◌+◌, ◌^◌, ◌≤◌, IfOk, length};
-ghost use Rattle.core_format.specs.Chunks.{chunk_state, is_held};
+ghost use Rattle.std.specs.Prelude.{◌≡◌, ◌-◌, ◌*◌, ◌+◌, ◌^◌, ◌≤◌, IfOk, IsTrue, Some, length};
+ghost use Rattle.core_format.specs.Chunks.{chunk_state, is_chunk_in, is_held};
 ghost use Rattle.core_format.specs.Cores.{MeetsTheRules};
 ghost use Rattle.heap_view.specs.Buffers.{buffers_of, free_buffers_of};
 ghost use Rattle.heap_view.specs.Hits.{hit_of};
@@ -8,13 +8,14 @@ ghost use Rattle.heap_view.specs.Memory.{core_bytes_from};
 ghost use Rattle.heap_view.specs.Points.{place_of_word};
 
 use crate::buffer::Buffer;
-use crate::build::{all_chunks, allocated_by_address, free_by_address};
+use crate::build::{all_chunks, allocated_by_address, free_by_address, geometries_of};
 use crate::hit::Hit;
 use crate::laws::cores_are_laid_out;
 use crate::look_up::{bytes_from, hit_at};
 use crate::numbers::{has_number, held_chunks};
 use crate::search::place_of;
 use buftag::State;
+use case_table::Geometry;
 use core_format::Core;
 use std::alloc::Global;
 use std::marker::Model;
@@ -30,6 +31,7 @@ pub struct View {
     free_chunks: Vec<Buffer>,
     chunks: Vec<u32>,
     held: Vec<u32>,
+    geometries: Vec<Geometry>,
 }
 
 impl Model for View {
@@ -40,7 +42,8 @@ impl Model for View {
 
     ghost view = { λ v. v.core };
 
-    ghost invariant = { λ v. IsView v.core v.buffers.items v.free_chunks.items v.chunks.items v.held.items };
+    ghost invariant = { λ v. IsView v.core v.buffers.items v.free_chunks.items v.chunks.items v.held.items
+        v.geometries.items };
 }
 
 impl View {
@@ -55,12 +58,14 @@ impl View {
         let chunks = all_chunks(alloc, &core)?;
         let buffers = allocated_by_address(alloc, &core, &held)?;
         let free_chunks = free_by_address(alloc, &core, &held)?;
+        let geometries = geometries_of(alloc, &core)?;
         Ok(View {
             core,
             buffers,
             free_chunks,
             chunks,
             held,
+            geometries,
         })
     }
 
@@ -94,11 +99,20 @@ impl View {
         if !has_number(&self.chunks, chunk) {
             return None;
         }
-        Some(if self.is_held(chunk) {
+        Some(self.state_of(chunk))
+    }
+
+    /// The state of a chunk that a slab of the core has, by its number. It looks among the numbers of those that
+    /// stand in a list or a magazine by halves.
+    pub fn state_of(&self, chunk: u32) -> State
+        requires { IsTrue (is_chunk_in self.now chunk) }
+        ensures { chunk_state self.now chunk ≡ Some result }
+    {
+        if self.is_held(chunk) {
             State::Free
         } else {
             State::Allocated
-        })
+        }
     }
 
     /// Tells whether the chunk stands in a list or a magazine.
@@ -113,7 +127,7 @@ impl View {
     pub fn find(&self, address: u64) -> Option<Hit>
         ensures { result ≡ hit_of self.now address }
     {
-        hit_at(&self.core, address)
+        hit_at(&self.core, &self.geometries, address)
     }
 
     /// The bytes from the address on, to the end of its slab or of its large buffer's pages; none where the

@@ -1,6 +1,10 @@
-use Rattle.std.proofs.Common.{◌≡◌, ◌<◌, ◌-◌, List, get_or, subst, sym, arith}
+use Rattle.std.proofs.Common.{◌≡◌, ◌∙◌, ◌<◌, ◌-◌, ◌*◌, ℕ, List, length, get_or, ap, subst, sym, arith}
 use Rattle.std.specs.List.Sorted.{IsNonDecreasingBy}
+use Rattle.umem_base.specs.declared.pages.TheConstants.{PAGE_BYTES}
 use Rattle.core_format.specs.declared.items.SlabItem.{SlabItem}
+use Rattle.core_format.specs.Chunks.{core_shapes}
+use Rattle.core_format.specs.Slabs.{shape_at}
+use Rattle.heap_view.specs.Layout.{IsSoundSlab}
 use Rattle.heap_view.specs.Search.{IsCut}
 use Rattle.heap_view.proofs.MemoryLemmas.{slab_begins, slab_found, slab_missed, slab_test, slabs_start_rising}
 use Rattle.heap_view.proofs.look_up.slab_at.Goals as goal
@@ -27,4 +31,6 @@ returns-clause-slab c =
     let at : slab ≡ get_or core.slabs (index - 1) slab = subst (λ (xs : List SlabItem). slab ≡ get_or xs (index - 1) slab) c.as_slice-slabs.ensures c.index-slabs-index.is in
     let some : 0 < index = omega (arith, c.if-index-eq0.false) in
     let low = slab_begins core.slabs c.args.address index slab cut some at in
-    rw (c.then_some.ensures, c.from.ensures) (slab_found core c.args.address index _ slab c.requires cut some cut.within (slab_test core c.args.address index slab c.geometry_in-pages.result.pages at c.geometry_in-pages.ensures.shape.pages low))
+    let sound : IsSoundSlab core slab = subst (IsSoundSlab core) (sym at) (c.requires.slabs (index - 1) slab (omega (arith, some, cut.within))) in
+    let long : length c.as_slice.result.now ≡ PAGE_BYTES * (shape_at (core_shapes core) slab.cache).pages = ap (λ (bytes : List ℕ). length bytes) c.as_slice.ensures ∙ sound.filled in
+    rw c.then_some.ensures (slab_found core c.args.address index _ slab c.requires cut some cut.within (slab_test core c.args.address index slab _ at long low))
