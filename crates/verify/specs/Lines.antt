@@ -1,12 +1,12 @@
 -- What is wrong with the chunks of a core.
-use Rattle.std.specs.Prelude.{◌≡◌, ℕ, ◌<◌, List, Option, None, option_and_then}
+use Rattle.std.specs.Prelude.{◌≡◌, ℕ, ◌<◌, false, List, Option, None, All, option_and_then}
 use Rattle.std.specs.List.{filter_map, flat_map}
 use Rattle.std.specs.Option.{option_map}
 use Rattle.buftag.specs.declared.finding.Finding.{Finding}
 use Rattle.buftag.specs.declared.state.State.{State}
 use Rattle.core_format.specs.declared.items.SlabItem.{SlabItem}
 use Rattle.core_format.specs.declared.whole.Core.{Core}
-use Rattle.core_format.specs.Chunks.{chunk_address, chunk_state, core_shapes, finding_in_slab, finding_in_state}
+use Rattle.core_format.specs.Chunks.{chunk_address, chunk_state, core_shapes, finding_in_slab, finding_in_state, is_guarded_core}
 use Rattle.heap_view.specs.Buffers.{chunks_of}
 use Rattle.verify.specs.declared.line.Line.{Line}
 
@@ -39,6 +39,11 @@ findings_of core = flat_map (slab_lines core) core.slabs
 -- the first line is of a chunk below that of the other
 abbrev pub IsLineBelow : Line → Line → Type 0
 IsLineBelow lower upper = lower.address < upper.address
+
+-- the core has no guards, and none of its caches has a constructor
+pub record IsUntagged (core : Core) : Type 0 where
+  pub unguarded : is_guarded_core core ≡ false
+  pub unmade : All (λ item. item.def.ctor ≡ None) core.caches
 
 -- no chunk of a cache has a finding, in whatever state
 abbrev pub NoneBreaks : Core → ℕ → Type 0

@@ -24,7 +24,7 @@ fn chunk_line(view: &View, slab: &SlabItem, geometry: &Geometry, index: u32) -> 
     // The numbers of chunks are below it, so that each has 32 bits.
     let _next = core.next_chunk;
     let chunk = slab.first + index;
-    let state = view.state(chunk)?;
+    let state = view.state_of(chunk);
     let finding = finding_of(core, slab, geometry, chunk, state)?;
     let offset = slab.colour + index * geometry.chunk;
     Some(Line {

@@ -3,6 +3,7 @@
 
 mod check;
 mod collect;
+pub mod laws;
 mod line;
 
 pub use collect::findings;
