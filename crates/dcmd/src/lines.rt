@@ -9,6 +9,7 @@ use crate::column::Column;
 use umem_base::{NoMemory, Text, put_decimal, put_hex};
 
 /// Appends a line of columns, with its end.
+#[inline(always)]
 pub(crate) fn put_line(
     out: &mut Text,
     first: Column<'_>,
@@ -22,6 +23,7 @@ pub(crate) fn put_line(
 }
 
 /// Appends each column behind a space.
+#[inline(always)]
 fn put_behind(out: &mut Text, columns: &[Column<'_>]) -> Result<(), NoMemory>
     ensures { OnOk result (out.new ≡ out.old ++ flat_map (λ column. 32 ∷ column_text column) columns.now) }
 {
@@ -32,6 +34,7 @@ fn put_behind(out: &mut Text, columns: &[Column<'_>]) -> Result<(), NoMemory>
     Ok(())
 }
 
+#[inline(always)]
 fn put_column(out: &mut Text, column: Column<'_>) -> Result<(), NoMemory>
     ensures { OnOk result (out.new ≡ out.old ++ column_text column.entry) }
 {
@@ -46,12 +49,14 @@ fn put_column(out: &mut Text, column: Column<'_>) -> Result<(), NoMemory>
     }
 }
 
+#[inline(always)]
 fn put_plain_decimal(out: &mut Text, value: u64) -> Result<(), NoMemory>
     ensures { OnOk result (out.new ≡ out.old ++ decimal value) }
 {
     put_decimal(out, value, 0)
 }
 
+#[inline(always)]
 fn put_plain_hex(out: &mut Text, value: u64) -> Result<(), NoMemory>
     ensures { OnOk result (out.new ≡ out.old ++ hexadecimal value) }
 {
@@ -59,6 +64,7 @@ fn put_plain_hex(out: &mut Text, value: u64) -> Result<(), NoMemory>
 }
 
 /// Appends a byte again and again.
+#[inline(always)]
 fn put_fill(out: &mut Text, byte: u8, count: usize) -> Result<(), NoMemory>
     ensures { OnOk result (out.new ≡ out.old ++ replicate count byte) }
 {
@@ -68,6 +74,7 @@ fn put_fill(out: &mut Text, byte: u8, count: usize) -> Result<(), NoMemory>
     Ok(())
 }
 
+#[inline(always)]
 fn put_left(out: &mut Text, bytes: &[u8], width: usize) -> Result<(), NoMemory>
     ensures { OnOk result (out.new ≡ out.old ++ left_aligned width bytes.now) }
 {
@@ -75,6 +82,7 @@ fn put_left(out: &mut Text, bytes: &[u8], width: usize) -> Result<(), NoMemory>
     put_fill(out, b' ', width.saturating_sub(bytes.len()))
 }
 
+#[inline(always)]
 fn put_after_zeros(out: &mut Text, bytes: &[u8], width: usize) -> Result<(), NoMemory>
     ensures { OnOk result (out.new ≡ out.old ++ after_zeros width bytes.now) }
 {

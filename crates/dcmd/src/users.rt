@@ -7,6 +7,7 @@ use std::alloc::Global;
 use umausers::{Group, groups};
 use umem_base::{NoMemory, Text, put_decimal, put_hex};
 
+#[inline(always)]
 fn put_number_and(out: &mut Text, number: u64, words: &[u8]) -> Result<(), NoMemory>
     ensures { OnOk result (out.new ≡ out.old ++ number_and number words.now) }
 {
@@ -22,6 +23,7 @@ fn put_group_line(out: &mut Text, group: &Group) -> Result<(), NoMemory>
     put_number_and(out, group.size, b":\n")
 }
 
+#[inline(always)]
 fn put_frame(out: &mut Text, frame: u64) -> Result<(), NoMemory>
     ensures { OnOk result (out.new ≡ out.old ++ frame_line frame) }
 {

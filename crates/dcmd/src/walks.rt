@@ -19,6 +19,7 @@ fn is_of_cache(cache: u32, buffer: &Buffer) -> bool
 }
 
 /// Appends the line of a buffer.
+#[inline(always)]
 fn put_address(out: &mut Text, buffer: &Buffer) -> Result<(), NoMemory>
     ensures { OnOk result (out.new ≡ out.old ++ address_line buffer.now) }
 {

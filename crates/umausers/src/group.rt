@@ -1,10 +1,10 @@
 use umem_base::Sequence;
 
-/// A group without leave to be listed has so many bytes or more, or so many chunks as `LARGE_COUNT` says. Both
-/// thresholds are this project's own.
+/// From so many bytes on, a group is listed also where not all groups are asked for. The threshold is this project's
+/// own.
 pub const LARGE_TOTAL: u64 = 8192;
 
-/// See `LARGE_TOTAL`.
+/// From so many chunks on, it is listed too.
 pub const LARGE_COUNT: u64 = 100;
 
 /// The allocated chunks of one size that calls with one stack were given, as `::umausers` of mdb(1) tells them.
