@@ -55,7 +55,7 @@ placed_in setting word slab = record { chunk = record { address = word; number =
 
 module _ (setting : Setting) (state : State) (thread : ℕ) (op : Op) where
   -- the slot of a free
-  free_slot : is_free op ≡ true → (slot : ℕ) × (freed_slot op ≡ Some slot)
+  pub free_slot : is_free op ≡ true → (slot : ℕ) × (freed_slot op ≡ Some slot)
   free_slot is = by_slot (freed_slot op) refl is
     where
       by_slot : (o : Option ℕ) → freed_slot op ≡ o → is_some o ≡ true → (slot : ℕ) × (freed_slot op ≡ Some slot)

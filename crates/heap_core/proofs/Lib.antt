@@ -10,6 +10,7 @@ pub mod HeapLemmas
 pub mod LastLemmas
 pub mod NextLemmas
 pub mod ReadLemmas
+pub mod RefusedLemmas
 pub mod RoundLemmas
 pub mod ShelvesLemmas
 pub mod SnapshotLemmas

@@ -1,12 +1,15 @@
 -- What performing a call gives.
-use Rattle.std.specs.Prelude.{◌≡◌, ℕ, List, None, Some}
+use Rattle.std.specs.Prelude.{◌≡◌, ◌≢◌, ℕ, true, List, None, Some, IfSome, ⊤}
+use Rattle.script.specs.declared.operation.Op.{Op}
 use Rattle.script.specs.Plan.{Call}
 use Rattle.plain_heap.specs.declared.entry.Body.{Body}
 use Rattle.plain_heap.specs.declared.reply.Reply.{Reply}
+use Rattle.plain_heap.specs.declared.reply.Reply.TheVariants.{Ok}
 use Rattle.plain_heap.specs.Calls.{due_call}
 use Rattle.heap_ledger.specs.Ledger.{Ledger, after_commit, run_setting, run_state}
 use Rattle.heap_accounts.specs.declared.turn.Turn.{Turn}
 use Rattle.heap_accounts.specs.declared.turn.Turn.TheVariants.{Behind, Made}
+use Rattle.heap_accounts.specs.Kinds.{is_free}
 use Rattle.heap_accounts.specs.Performed.{IsPerformed}
 use Rattle.heap_core.specs.Heap.{run_places}
 
@@ -27,3 +30,20 @@ pub record PerformsCall (old new : Ledger) (thread number : ℕ) (answer : Reply
 abbrev pub PerformsTurn : Ledger → Ledger → ℕ → ℕ → Turn → Type 0
 PerformsTurn old new thread number Behind = WasBehind old new thread number
 PerformsTurn old new thread number (Made answer) = PerformsCall old new thread number answer
+
+-- ---- refused frees
+
+-- a free, answered with anything but ok
+abbrev pub IsRefusedFree : Op → Reply → Type 0
+IsRefusedFree op answer = (is_free op ≡ true) × (answer ≢ Ok)
+
+-- what lives, what stands, each byte, and where each free chunk stands are as before
+pub record LeavesAll (old new : Ledger) : Type 0 where
+  pub state : run_state new ≡ run_state old
+  pub places : run_places new ≡ run_places old
+
+-- a refused free leaves all of that, whichever call was due
+abbrev pub KeepsRefused : Ledger → Ledger → ℕ → ℕ → Turn → Type 0
+KeepsRefused old new thread number Behind = ⊤
+KeepsRefused old new thread number (Made answer) =
+    IfSome (due_call old.plan old.entries thread number) (λ call. IsRefusedFree call.op answer → LeavesAll old new)

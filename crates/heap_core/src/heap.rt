@@ -8,7 +8,7 @@ ghost use Rattle.heap_accounts.specs.Finish.{GoesOn};
 ghost use Rattle.heap_accounts.specs.Placed.{IsPlaced};
 ghost use Rattle.heap_pictures.specs.Pictures.{Pictures, TellsPlaces};
 ghost use Rattle.heap_core.specs.Heap.{run_places};
-ghost use Rattle.heap_core.specs.Performs.{PerformsTurn};
+ghost use Rattle.heap_core.specs.Performs.{KeepsRefused, PerformsTurn};
 
 use crate::chunk_calls::perform_chunk;
 use crate::free_calls::perform_free;
@@ -81,10 +81,11 @@ impl Heap {
     }
 
     /// Performs the call of a thread of that number, counted from 0 for each thread, of any kind. All memory is taken
-    /// before the entries are made.
+    /// before the entries are made. A free that is refused adds its entry and changes nothing else.
     pub fn perform(&mut self, alloc: Global, thread: u32, call: u32) -> Result<Turn, NoMemory>
         ensures ok { IfOk result (PerformsTurn self.old self.new thread call) }
         ensures err { OnErr result (self.new ≡ self.old) }
+        ensures refused { IfOk result (KeepsRefused self.old self.new thread call) }
     {
         let Some(asked) = self.books.asked(thread, call) else {
             return Ok(Turn::Behind);

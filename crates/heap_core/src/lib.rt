@@ -12,3 +12,6 @@ mod shelves;
 
 pub use alone::run_alone;
 pub use heap::Heap;
+
+#[cfg(test)]
+mod trials;
