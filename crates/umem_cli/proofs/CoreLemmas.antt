@@ -26,13 +26,13 @@ pub core_not_read : (files : Files) (name : List ℕ) (before after : ℕ) (faul
 core_not_read files name before after read.Missing reads counts = (reads, counts)
 core_not_read files name before after read.ReadFault reads counts = counts
 core_not_read files name before after read.TooLong reads counts = (reads.0, reads.1, counts)
-core_not_read files name before after read.NoMemory reads counts = counts
+core_not_read files name before after read.NoMemory reads counts = (reads, counts)
 
 core_cause : (files : Files) (name bytes : List ℕ) (before after : ℕ) (fault : CoreFault)
     → MayHave files name → Are (bytes_of files name) bytes → length bytes ≤ MOST_CORE_BYTES → after ≡ before → IsToldBy fault (core_of bytes) → IsCoreCause files name before after (refusal_of_core fault)
 core_cause files name bytes before after (core.Bad offset fault) has are short same told =
     (record { file = has; bytes = bytes; read = are; short = short; bad = told }, same)
-core_cause files name bytes before after core.NoMemory has are short same told = same
+core_cause files name bytes before after core.NoMemory has are short same told = (has, same)
 
 -- why bytes that were read are no core
 pub bad_core : (files : Files) (name bytes : List ℕ) (before after : ℕ) (fault : CoreFault) (result : Result Core Refusal)

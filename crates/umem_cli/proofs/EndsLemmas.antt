@@ -5,9 +5,7 @@ use Rattle.std.specs.Io.KnownBytes.{Appends}
 use Rattle.std.proofs.lemmas.List.{append-nil}
 use Rattle.umem_base.specs.Folder.{Files}
 use Rattle.umem_cli.specs.declared.status.Status.{Status}
-use Rattle.umem_cli.specs.declared.refusal.Refusal.TheVariants as refusal
-use Rattle.umem_cli.specs.declared.status.Status.TheVariants as status
-use Rattle.umem_cli.specs.Pieces.{Delivers, DeliversPiece, Ends, FailsAt, FailsPiece, Piece, Wanted, for_err, for_file, for_out, refused}
+use Rattle.umem_cli.specs.Pieces.{Delivers, DeliversPiece, Ends, FailsAt, FailsPiece, Piece, Wanted, for_err, for_file, for_out}
 use Rattle.umem_cli.specs.Streams.{Outputs, Says, Store, Stream, Streams, Takes, outputs, without_store}
 
 appends_nothing : (taken : Option (List ℕ)) → Appends taken taken []
@@ -33,10 +31,6 @@ pub says_err : (before after : Outputs) (bytes : List ℕ) (wanted result : Stat
     → Ends before after (record { pieces = for_err bytes ∷ []; status = wanted }) result
 says_err before after bytes wanted result (inl done) same store = inl (done.0, (after, (same, done.1, store), refl))
 says_err before after bytes wanted result (inr failed) same store = inr (failed.0, inl (same, failed.1, store))
-
--- want of memory has no line
-pub no_line : (all : Outputs) (name : List ℕ) → Ends all all (refused name refusal.NoMemory) status.NoMemory
-no_line all name = inl (refl, (all, (refl, takes_nothing all.err, refl), refl))
 
 -- a piece more
 pub delivers_more : (before between after : Outputs) (pieces : List Piece) (piece : Piece) → Delivers before between pieces → DeliversPiece between after piece → Delivers before after (pieces ++ piece ∷ [])

@@ -53,7 +53,7 @@ same_outputs before after out err store =
 -- an answer that was not written
 pub answer_stopped : (core : Core) (number : ℕ) (line : List ℕ) (dcmd : Dcmd) (before after : Outputs) (end : Status) → HasWord line → command_of line ≡ Ok dcmd → EndsAnswer core dcmd before.out after.out (Err end) → after.err ≡ before.err → after.store ≡ before.store
     → EndsLine core number line before after (Err end)
-answer_stopped core number line dcmd before after end has is (inl short) same store = inl (short.0, same_outputs before after short.1 same store)
+answer_stopped core number line dcmd before after end has is (inl short) same store = inl (short.0, (dcmd, is), same_outputs before after short.1 same store)
 answer_stopped core number line dcmd before after end has is (inr failed) same store =
     inr (failed.0, (for_out failed.1.0, answers_so core number line dcmd (TakesFront before.out after.out) has is failed.1, (failed.1.2, same, store)))
 

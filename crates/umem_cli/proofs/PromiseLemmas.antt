@@ -29,13 +29,13 @@ use Rattle.umem_cli.specs.Pieces.{DeliversPiece, Ends, FailsAt, FailsPiece, Give
 use Rattle.umem_cli.specs.Made.{WantsMade}
 use Rattle.umem_cli.specs.Messages.{usage_text}
 use Rattle.umem_cli.specs.Outcomes.{GivesMade, SaysUsage}
-use Rattle.umem_cli.specs.Promise.{GivenOut, IsCoreThere, IsScriptThere, IsStatusOf, IsWanted, IsWholeOf, commands_status, usage}
+use Rattle.umem_cli.specs.Promise.{GivenOut, IsCoreThere, IsScriptThere, IsStatusOf, IsWanted, IsWholeOf, WantsNothing, commands_status, usage}
 use Rattle.umem_cli.specs.Refusal.{status_of}
-use Rattle.umem_cli.specs.Sessions.{IsCommandsCause, IsCoreCause, WantsMdb, answered, is_refused}
+use Rattle.umem_cli.specs.Sessions.{GivenByMdb, IsCommandsCause, IsCoreCause, WantsMdb, answered, is_refused}
 use Rattle.umem_cli.specs.Streams.{Outputs}
 use Rattle.umem_cli.specs.Transcripts.{GivenByRun, IsPrintedIn, IsRunCause, WantsRun, printed}
 use Rattle.umem_cli.specs.World.{HasNoFault, KeepsInput, World, outputs_of}
-use Rattle.umem_cli.proofs.EndsLemmas.{no_line, says_err, says_out}
+use Rattle.umem_cli.proofs.EndsLemmas.{says_err, says_out}
 use Rattle.umem_cli.proofs.LineLemmas.{same_outputs}
 
 -- ---- a write that failed has raised a count
@@ -165,34 +165,31 @@ mdb_status name before after wanted there calm (inr (inr session)) =
 
 -- ---- what is asked
 
+-- what was wanted, or nothing for want of memory
+by_memory : {Wants Is : Type 0} (before after : World) (wanted : Wanted) → Wants ⊎ WantsNothing before after wanted → (Wants → Is) → (wanted.status ≡ NoMemory → Is) → Is
+by_memory before after wanted (inl its) wants short = wants its
+by_memory before after wanted (inr its) wants short = short (ap (λ w. w.status) its.wants)
+
 pub whole_given : (task : Task) (before after : World) (status : Status) → GivesOut (IsWanted task before after) (outputs_of before) (outputs_of after) status → IsWholeOf task before after status
 whole_given (run job) before after status given = λ there calm.
-    subst (λ (s : Status). (s ≡ Done) ⊎ (s ≡ NoMemory)) (sym (ended_so before after given.0 status calm given.2)) (run_status job before after given.0 there calm given.1.1)
+    subst (λ (s : Status). (s ≡ Done) ⊎ (s ≡ NoMemory)) (sym (ended_so before after given.0 status calm given.2)) (by_memory before after given.0 given.1 (λ its. run_status job before after given.0 there calm its.1) inr)
 whole_given (mdb name) before after status given = λ there calm.
-    subst (λ (s : Status). IsStatusOf before.input s ⊎ (s ≡ NoMemory)) (sym (ended_so before after given.0 status calm given.2)) (mdb_status name before after given.0 there calm given.1)
+    subst (λ (s : Status). IsStatusOf before.input s ⊎ (s ≡ NoMemory)) (sym (ended_so before after given.0 status calm given.2)) (by_memory before after given.0 given.1 (mdb_status name before after given.0 there calm) inr)
 whole_given (make seed ops options) before after status given = λ calm.
-    subst (λ (s : Status). (s ≡ Done) ⊎ (s ≡ NoMemory)) (sym (ended_so before after given.0 status calm given.2)) (made_status given.0 given.1.1.1)
+    subst (λ (s : Status). (s ≡ Done) ⊎ (s ≡ NoMemory)) (sym (ended_so before after given.0 status calm given.2)) (by_memory before after given.0 given.1 (λ its. made_status given.0 its.1.1) inr)
   where
     made_status : (wanted : Wanted) → WantsMade (has_guards options) seed ops wanted ⊎ (wanted ≡ nothing) → (wanted.status ≡ Done) ⊎ (wanted.status ≡ NoMemory)
     made_status wanted (inl made) = inl (ap (λ w. w.status) made.wants)
     made_status wanted (inr is) = inr (ap (λ w. w.status) is)
 whole_given none before after status given = λ calm.
-    subst (λ (s : Status). (s ≡ Usage) ⊎ (s ≡ NoMemory)) (sym (ended_so before after given.0 status calm given.2)) (usage_status given.0 given.1.1.1)
-  where
-    usage_status : (wanted : Wanted) → (wanted ≡ usage) ⊎ (wanted ≡ nothing) → (wanted.status ≡ Usage) ⊎ (wanted.status ≡ NoMemory)
-    usage_status wanted (inl is) = inl (ap (λ w. w.status) is)
-    usage_status wanted (inr is) = inr (ap (λ w. w.status) is)
+    subst (λ (s : Status). (s ≡ Usage) ⊎ (s ≡ NoMemory)) (sym (ended_so before after given.0 status calm given.2))
+    (by_memory before after given.0 given.1 (λ its. inl (ap (λ w. w.status) its.wants)) inr)
 
 -- ---- what is given where nothing is done
 
 -- where memory is short for the words, nothing is written and nothing read
 pub short_given : (task : Task) (before : World) → GivesOut (IsWanted task before before) (outputs_of before) (outputs_of before) NoMemory
-short_given (run job) before =
-    (refused job.file refusal.NoMemory, ((refl, refl), inr (record { why = refusal.NoMemory; cause = refl; wants = refl })), no_line (outputs_of before) job.file)
-short_given (mdb name) before =
-    (refused name refusal.NoMemory, inl (record { why = refusal.NoMemory; cause = refl; input = (refl, refl); wants = refl }), no_line (outputs_of before) name)
-short_given (make seed ops options) before = (nothing, ((refl, refl), (refl, inr refl)), inl (refl, refl))
-short_given none before = (nothing, ((refl, refl), (refl, inr refl)), inl (refl, refl))
+short_given task before = (nothing, inr (record { input = (refl, refl); reads = refl; wants = refl }), inl (refl, refl))
 
 -- the folder is as it was
 abbrev pub SameStore : World → World → Type 0
@@ -202,15 +199,15 @@ SameStore before after = (outputs_of after).store ≡ (outputs_of before).store
 pub usage_given : (before after : World) (status : Status) → KeepsInput before after → after.read_faults ≡ before.read_faults → after.streams.out ≡ before.streams.out → SameStore before after
     → SaysUsage before.streams.err after.streams.err status → GivesOut (IsWanted none before after) (outputs_of before) (outputs_of after) status
 usage_given before after status input reads out store says =
-    (usage, (input, (reads, inl refl)), says_err (outputs_of before) (outputs_of after) usage_text Usage status says out store)
+    (usage, inl (record { input = input; reads = reads; wants = refl }), says_err (outputs_of before) (outputs_of after) usage_text Usage status says out store)
 
 -- a drawn script reads nothing and tells nothing on the error stream
 pub make_given : (seed ops : ℕ) (options : Options) (before after : World) (status : Status) → KeepsInput before after → after.read_faults ≡ before.read_faults → after.streams.err ≡ before.streams.err → SameStore before after
     → GivesMade (has_guards options) seed ops before.streams.out after.streams.out status → GivesOut (IsWanted (make seed ops options) before after) (outputs_of before) (outputs_of after) status
 make_given seed ops options before after status input reads err store (inl made) =
-    (printed made.0, (input, (reads, inl (record { text = made.0; is = made.1; wants = refl }))), says_out (outputs_of before) (outputs_of after) made.0 Done status made.2 err store)
+    (printed made.0, inl (input, (reads, inl (record { text = made.0; is = made.1; wants = refl }))), says_out (outputs_of before) (outputs_of after) made.0 Done status made.2 err store)
 make_given seed ops options before after status input reads err store (inr short) =
-    (nothing, (input, (reads, inr refl)), inl (short.0, same_outputs (outputs_of before) (outputs_of after) short.1 err store))
+    (nothing, inl (input, (reads, inr refl)), inl (short.0, same_outputs (outputs_of before) (outputs_of after) short.1 err store))
 
 -- ---- by the job that was read
 
@@ -236,11 +233,15 @@ module _ (words : List (List ℕ)) (asked : Option Asked) (told : asked ≡ job_
 pub given_for : (words : List (List ℕ)) (task : Task) (before after : World) (status : Status) → task_of words ≡ task → GivesOut (IsWanted task before after) (outputs_of before) (outputs_of after) status → GivenOut words before after status
 given_for words task before after status is given = subst (λ (t : Task). GivesOut (IsWanted t before after) (outputs_of before) (outputs_of after) status) (sym is) given
 
+-- commands over a core
+pub mdb_given : (name : List ℕ) (before after : World) (status : Status) → GivenByMdb name before after status → GivesOut (IsWanted (mdb name) before after) (outputs_of before) (outputs_of after) status
+mdb_given name before after status given = (given.0, inl given.1, given.2)
+
 -- a run reads nothing of the input
 pub run_given : (job : Job) (before after b a : World) (status : Status) → b.files ≡ before.files → b.read_faults ≡ before.read_faults → a.read_faults ≡ after.read_faults
     → outputs_of b ≡ outputs_of before → outputs_of a ≡ outputs_of after → KeepsInput before after → GivenByRun job b a status → GivesOut (IsWanted (run job) before after) (outputs_of before) (outputs_of after) status
 run_given job before after b a status files reads reads_after all all_after input given =
-    (given.0, (input, moved given.0 given.1), subst (λ (s : Outputs). Ends (outputs_of before) s given.0 status) all_after (subst (λ (s : Outputs). Ends s (outputs_of a) given.0 status) all given.2))
+    (given.0, inl (input, moved given.0 given.1), subst (λ (s : Outputs). Ends (outputs_of before) s given.0 status) all_after (subst (λ (s : Outputs). Ends s (outputs_of a) given.0 status) all given.2))
   where
     moved : (wanted : Wanted) → WantsRun job b a wanted → WantsRun job before after wanted
     moved wanted (inl made) = inl (record {

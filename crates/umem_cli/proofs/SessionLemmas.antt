@@ -96,7 +96,7 @@ pub stopped_so_far : (core : Core) (commands rest line behind : List ℕ) (numbe
 stopped_so_far core commands rest line behind number refused before between after end so split (inl short) = (
   record { pieces = so.pieces; status = NoMemory },
   inr (record { first = so.front; more = lines_of rest; whole = so.split; pieces = so.answers; status = refl }),
-  inl (short.0, subst (λ (s : Outputs). Delivers before s so.pieces) (sym short.1) so.delivers),
+  inl (short.0, subst (λ (s : Outputs). Delivers before s so.pieces) (sym short.2) so.delivers),
 )
 stopped_so_far core commands rest line behind number refused before between after end so split (inr failed) =
     let piece = failed.1.0 in (

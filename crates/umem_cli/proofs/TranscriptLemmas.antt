@@ -52,7 +52,7 @@ not_read_cause : (files : Files) (name : List ℕ) (before after : ℕ) (fault :
 not_read_cause files name before after read.Missing reads counts = (reads, counts)
 not_read_cause files name before after read.ReadFault reads counts = counts
 not_read_cause files name before after read.TooLong reads counts = (too_long files name (bytes_of files name) refl reads.0 reads.1, counts)
-not_read_cause files name before after read.NoMemory reads counts = counts
+not_read_cause files name before after read.NoMemory reads counts = (reads, counts)
 
 pub not_read : (job : Job) (files : Files) (before after : ℕ) (fault : ReadFile) (result : Result Printed Refusal)
     → ReadsFile files job.file MOST_BYTES (Err fault) → CountsReadFault {T = Unit {0}} before after (Err fault) → IsErrAnd result (λ r. r ≡ refusal_of_read fault) → MakesPrintedIn job files before after result
@@ -65,7 +65,7 @@ pub script_read : (job : Job) (files : Files) (bytes : List ℕ) (plan : Plan) (
 script_read job files bytes plan before after (Ok its) has are spelled same made =
     (record { file = has; bytes = bytes; read = are; plan = plan; spelled = spelled; is = made }, same)
 script_read job files bytes plan before after (Err why) has are spelled same short =
-    subst (λ (r : Refusal). IsRunCause files job.file before after r) (sym short) same
+    subst (λ (r : Refusal). IsRunCause files job.file before after r) (sym short) (has, same)
 
 -- where memory was short, nothing was made
 pub none_printed : (job : Job) (plan : Plan) (result : Result Printed Refusal) → IsErrAnd result (λ r. r ≡ short.NoMemory)

@@ -17,7 +17,7 @@ use Rattle.umem_cli.specs.declared.status.Status.TheVariants as status
 use Rattle.umem_cli.specs.Made.{IsMade}
 use Rattle.umem_cli.specs.Messages.{usage_text}
 use Rattle.umem_cli.specs.Pieces.{DeliversPiece, Ends, FailsPiece, Piece}
-use Rattle.umem_cli.specs.Sessions.{AnswersLine, IsCommandsCause, IsCoreCause, IsCoreIn, is_refused}
+use Rattle.umem_cli.specs.Sessions.{AnswersLine, IsCommand, IsCommandsCause, IsCoreCause, IsCoreIn, is_refused}
 use Rattle.umem_cli.specs.Streams.{Outputs, Says, Stream, Takes, TakesFront}
 use Rattle.umem_cli.specs.Transcripts.{IsPrintedIn, IsRunCause, with_core}
 use Rattle.umem_cli.specs.Words.{AreText}
@@ -69,12 +69,12 @@ EndsAnswer core dcmd before after (Err end) =
 abbrev pub AnswersSo : Core → ℕ → List ℕ → (Piece → Type 0) → Type 0
 AnswersSo core number line Goes = (piece : Piece) × AnswersLine core number line piece × Goes piece
 
--- what is wanted for the line was written, or was not for want of memory, or a stream failed
+-- what is wanted for the line was written; or it is a command, and memory was short for its answer; or a stream failed
 abbrev pub EndsLine : Core → ℕ → List ℕ → Outputs → Outputs → Result Bool Status → Type 0
 EndsLine core number line before after (Ok refuses) =
     AnswersSo core number line (DeliversPiece before after) × (refuses ≡ is_refused line)
 EndsLine core number line before after (Err end) =
-    ((end ≡ status.NoMemory) × (after ≡ before))
+    ((end ≡ status.NoMemory) × IsCommand line × (after ≡ before))
     ⊎ ((end ≡ status.WriteFault) × AnswersSo core number line (FailsPiece before after))
 
 -- ---- words

@@ -24,18 +24,29 @@ use Rattle.umem_cli.specs.World.{HasNoFault, KeepsInput, World, outputs_of}
 abbrev pub usage : Wanted
 usage = record { pieces = for_err usage_text ∷ []; status = Usage }
 
--- the usage lines are wanted, or there is no memory for the words, and nothing is read
-abbrev pub WantsUsage : World → World → Wanted → Type 0
-WantsUsage before after wanted =
-    (after.read_faults ≡ before.read_faults) × ((wanted ≡ usage) ⊎ (wanted ≡ nothing))
+-- nothing is read, and the usage lines are wanted
+pub record WantsUsage (before after : World) (wanted : Wanted) : Type 0 where
+  pub input : KeepsInput before after
+  pub reads : after.read_faults ≡ before.read_faults
+  pub wants : wanted ≡ usage
+
+-- there is no memory for the words: nothing is read, and nothing is wanted
+pub record WantsNothing (before after : World) (wanted : Wanted) : Type 0 where
+  pub input : KeepsInput before after
+  pub reads : after.read_faults ≡ before.read_faults
+  pub wants : wanted ≡ nothing
+
+-- what may be wanted where the words were read
+abbrev pub WantsTask : Task → World → World → Wanted → Type 0
+WantsTask (run job) before after wanted = KeepsInput before after × WantsRun job before after wanted
+WantsTask (mdb name) before after wanted = WantsMdb name before after wanted
+WantsTask (make seed ops options) before after wanted =
+    KeepsInput before after × WantsMake (has_guards options) seed ops before after wanted
+WantsTask none before after wanted = WantsUsage before after wanted
 
 -- what may be wanted for what is asked
 abbrev pub IsWanted : Task → World → World → Wanted → Type 0
-IsWanted (run job) before after wanted = KeepsInput before after × WantsRun job before after wanted
-IsWanted (mdb name) before after wanted = WantsMdb name before after wanted
-IsWanted (make seed ops options) before after wanted =
-    KeepsInput before after × WantsMake (has_guards options) seed ops before after wanted
-IsWanted none before after wanted = KeepsInput before after × WantsUsage before after wanted
+IsWanted task before after wanted = WantsTask task before after wanted ⊎ WantsNothing before after wanted
 
 -- what the program gives out for its words
 abbrev pub GivenOut : List (List ℕ) → World → World → Status → Type 0

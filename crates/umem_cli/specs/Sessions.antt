@@ -53,7 +53,7 @@ IsCoreCause files name before after refusal.NoFile = MayLack files name × (afte
 IsCoreCause files name before after refusal.ReadFault = Rose before after
 IsCoreCause files name before after refusal.CommandsFault = ⊥
 IsCoreCause files name before after refusal.CommandsTooLong = ⊥
-IsCoreCause files name before after refusal.NoMemory = after ≡ before
+IsCoreCause files name before after refusal.NoMemory = MayHave files name × (after ≡ before)
 
 -- ---- the commands
 
@@ -102,6 +102,10 @@ refuses_words (word ∷ words) command = is_err command
 -- the line is refused
 abbrev pub is_refused : List ℕ → Bool
 is_refused line = refuses_words (words_of line) (command_of line)
+
+-- the line is a command
+abbrev pub IsCommand : List ℕ → Type 0
+IsCommand line = (dcmd : Dcmd) × (command_of line ≡ Ok dcmd)
 
 -- the status behind the answers to lines
 abbrev pub answered : Bool → Status

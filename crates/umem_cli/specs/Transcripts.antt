@@ -43,7 +43,7 @@ IsRunCause files name before after refusal.NoFile = MayLack files name × (after
 IsRunCause files name before after refusal.ReadFault = Rose before after
 IsRunCause files name before after refusal.CommandsFault = ⊥
 IsRunCause files name before after refusal.CommandsTooLong = ⊥
-IsRunCause files name before after refusal.NoMemory = after ≡ before
+IsRunCause files name before after refusal.NoMemory = MayHave files name × (after ≡ before)
 
 -- a text on the output
 abbrev pub printed : List ℕ → Wanted

@@ -4,6 +4,7 @@
 mod arguments;
 mod given;
 mod job;
+pub mod laws;
 mod limits;
 mod make;
 mod mem_words;

@@ -5,17 +5,17 @@ ghost use Rattle.umem_cli.specs.Status.{exit_number};
 #[derive(Clone, Copy, Debug, PartialEq, Eq)]
 pub enum Status {
     Done,
-    /// A command over a core was refused.
+    /// A line of commands was refused, or all of them, since they have too many bytes.
     Refused,
     /// The words are no command.
     Usage,
     /// The file is no script.
     BadScript,
-    /// The file is no core.
+    /// The file is no core, or has too many bytes.
     BadCore,
-    /// The folder failed, at an opening or a read.
+    /// The folder failed, at an opening or a read, or the input did.
     ReadFault,
-    /// A stream failed before it had taken all.
+    /// A stream, or the file of a core, failed before it had taken all.
     WriteFault,
     NoMemory,
     /// The folder has no such file.

@@ -5,7 +5,7 @@ use Rattle.umem_cli.specs.declared.status.Status.TheVariants.{NoMemory}
 use Rattle.umem_cli.specs.Asked.{make, mdb, none, run, job_to_run, task_of}
 use Rattle.umem_cli.specs.Streams.{streams}
 use Rattle.umem_cli.specs.World.{without_input, world}
-use Rattle.umem_cli.proofs.PromiseLemmas.{given_for, make_given, make_read, mdb_read, none_read, run_given, run_read, short_given, usage_given, whole_given}
+use Rattle.umem_cli.proofs.PromiseLemmas.{given_for, make_given, make_read, mdb_given, mdb_read, none_read, run_given, run_read, short_given, usage_given, whole_given}
 use Rattle.umem_cli.specs.Promise.{core_file}
 use Rattle.umem_cli.proofs.PrintedLemmas.{same_faults, same_files}
 use Rattle.umem_cli.proofs.top.umem.Goals as goal
@@ -74,7 +74,7 @@ returns-in-Mdb-clause-given g c =
     let after = world (g.F.Folder.files c.diagnose.new.files) (g.F.Folder.read_faults c.diagnose.new.files) (g.F.Folder.write_faults c.diagnose.new.files) (g.S.Source.left c.diagnose.new.input) (g.S.Source.faults c.diagnose.new.input)
     (streams (g.O.Sink.taken c.diagnose.new.out) (g.O.Sink.faults c.diagnose.new.out) (g.E.Sink.taken c.diagnose.new.err) (g.E.Sink.faults c.diagnose.new.err)) in
     let asks = mdb_read words c.in-Ok.asked c.in-Ok.ensures.job c.in-Some.asked c.in-Some.is c.in-Mdb.job c.in-Mdb.is in
-    given_for words (mdb c.in-Mdb.job.core) before after c.diagnose.result asks c.diagnose.ensures.given
+    given_for words (mdb c.in-Mdb.job.core) before after c.diagnose.result asks (mdb_given c.in-Mdb.job.core before after c.diagnose.result c.diagnose.ensures.given)
 
 pub returns-in-Mdb-clause-whole : goal.returns-in-Mdb-clause-whole
 returns-in-Mdb-clause-whole g c =
@@ -84,7 +84,7 @@ returns-in-Mdb-clause-whole g c =
     let after = world (g.F.Folder.files c.diagnose.new.files) (g.F.Folder.read_faults c.diagnose.new.files) (g.F.Folder.write_faults c.diagnose.new.files) (g.S.Source.left c.diagnose.new.input) (g.S.Source.faults c.diagnose.new.input)
     (streams (g.O.Sink.taken c.diagnose.new.out) (g.O.Sink.faults c.diagnose.new.out) (g.E.Sink.taken c.diagnose.new.err) (g.E.Sink.faults c.diagnose.new.err)) in
     let asks = mdb_read words c.in-Ok.asked c.in-Ok.ensures.job c.in-Some.asked c.in-Some.is c.in-Mdb.job c.in-Mdb.is in
-    whole_given (task_of words) before after c.diagnose.result (given_for words (mdb c.in-Mdb.job.core) before after c.diagnose.result asks c.diagnose.ensures.given)
+    whole_given (task_of words) before after c.diagnose.result (given_for words (mdb c.in-Mdb.job.core) before after c.diagnose.result asks (mdb_given c.in-Mdb.job.core before after c.diagnose.result c.diagnose.ensures.given))
 
 pub returns-in-Make-clause-given : goal.returns-in-Make-clause-given
 returns-in-Make-clause-given g c =
